@@ -1,0 +1,4 @@
+pub mod Numbers
+pub mod Refusals
+pub mod Sizes
+pub mod Parties
