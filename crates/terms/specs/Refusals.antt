@@ -92,3 +92,7 @@ sentenceOf (Call c) = callSentence c
 -- something cannot be made or set up so; it points nowhere
 abbrev pub set-up : Refusal
 set-up = record { cause = Call C.SetUp; place = 0 }
+
+-- a buffer is too small
+abbrev pub no-room : Refusal
+no-room = record { cause = Call C.NoRoom; place = 0 }
