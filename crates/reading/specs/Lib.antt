@@ -1,0 +1,6 @@
+pub mod Bind
+pub mod Fields
+pub mod Parts
+pub mod Spans
+pub mod Reads
+pub mod Form
