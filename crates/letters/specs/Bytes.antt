@@ -45,13 +45,23 @@ unfoldable pub rowBytes : List (Option Seal) → List ℕ
 rowBytes [] = []
 rowBytes (r ∷ rs) = sealBytes r ++ rowBytes rs
 
+-- the lowest bit of a map stands
+abbrev pub lowest : ℕ → Bool
+lowest map = eqb (map % 2) 1
+
+-- the row at `at`, if there is one, and the offset after it
+abbrev pub rowAt : Bool → List ℕ → ℕ → Option Seal
+rowAt true xs at = Some (record { 0 = eightAt xs at })
+rowAt false xs at = None
+
+abbrev pub afterRow : Bool → ℕ → ℕ
+afterRow true at = at + 8
+afterRow false at = at
+
 -- n rows read from `at` on: a seal for each bit that stands in the map, the lowest bit first
 unfoldable pub rowsAt : ℕ → ℕ → List ℕ → ℕ → List (Option Seal)
 rowsAt zero map xs at = []
-rowsAt (suc n) map xs at =
-    cond (eqb (map % 2) 1)
-    (Some (record { 0 = eightAt xs at }) ∷ rowsAt n (map / 2) xs (at + 8))
-    (None ∷ rowsAt n (map / 2) xs at)
+rowsAt (suc n) map xs at = rowAt (lowest map) xs at ∷ rowsAt n (map / 2) xs (afterRow (lowest map) at)
 
 -- a buffer with ys written over its start
 abbrev pub written : List ℕ → List ℕ → List ℕ

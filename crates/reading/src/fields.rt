@@ -59,7 +59,11 @@ pub(crate) fn ranged<T>(value: Option<T>, at: usize) -> Result<T, Refusal>
 pub(crate) fn checked(fits: bool, at: usize) -> Result<(), Refusal>
     ensures { λ r. ⌜ r ≡ Fields.checked fits at ⌝ }
 {
-    if fits { Ok(()) } else { Err(refusal(FormCause::OutOfRange, at)) }
+    if fits {
+        Ok(())
+    } else {
+        Err(refusal(FormCause::OutOfRange, at))
+    }
 }
 
 impl Reader<'_> {
@@ -284,7 +288,10 @@ impl Reader<'_> {
         }
         let at = self.at;
         let n = self.take_two()?;
-        checked(n as u32 >> sizes.seats() == 0 && n.count_ones() == sizes.quorum() as u32, at)?;
+        checked(
+            n as u32 >> sizes.seats() == 0 && n.count_ones() == sizes.quorum() as u32,
+            at,
+        )?;
         Ok(SeatSet(n))
     }
 

@@ -6,10 +6,10 @@ ghost use lib.ListN.{length};
 ghost use Rattle.reading.specs.Form as Form;
 ghost use Rattle.reading.specs.Parts.{told};
 ghost use Rattle.reading.specs.Reads.{ReadsBody};
+use crate::fields::Reader;
 use crate::fields::bit_stands;
 use crate::fields::checked;
 use crate::fields::refusal;
-use crate::fields::Reader;
 use crate::parts::Grounds;
 use crate::parts::Part;
 use letters::bodies::Body;
@@ -160,7 +160,11 @@ impl<'a> Reader<'a> {
         })
     }
 
-    fn take_confirm(&mut self, sizes: Sizes, map: u16) -> Result<Body<Part<'a>, Grounds<'a>>, Refusal>
+    fn take_confirm(
+        &mut self,
+        sizes: Sizes,
+        map: u16,
+    ) -> Result<Body<Part<'a>, Grounds<'a>>, Refusal>
         ensures { λ r. ⌜ ReadsBody (Form.confirmBody sizes map) (now (self .entry)) (now (self .exit)) r ⌝ }
     {
         let sender = self.take_controller(sizes)?;
@@ -175,7 +179,11 @@ impl<'a> Reader<'a> {
         })
     }
 
-    fn take_result(&mut self, sizes: Sizes, map: u16) -> Result<Body<Part<'a>, Grounds<'a>>, Refusal>
+    fn take_result(
+        &mut self,
+        sizes: Sizes,
+        map: u16,
+    ) -> Result<Body<Part<'a>, Grounds<'a>>, Refusal>
         ensures { λ r. ⌜ ReadsBody (Form.resultBody sizes map) (now (self .entry)) (now (self .exit)) r ⌝ }
     {
         let sender = self.take_controller(sizes)?;
@@ -195,7 +203,13 @@ impl<'a> Reader<'a> {
         let at = self.at;
         let view = self.take_view()?;
         checked(view.number() != 0, at)?;
-        let basis = self.take_grounds_if(bit_stands(map, 9), bit_stands(map, 5), sizes, change, view)?;
+        let basis = self.take_grounds_if(
+            bit_stands(map, 9),
+            bit_stands(map, 5),
+            sizes,
+            change,
+            view,
+        )?;
         Ok(Body::Move {
             sender,
             view,

@@ -1,6 +1,7 @@
 // Reading: from any bytes to a letter that borrows them, or a refusal.
-pub mod parts;
 mod fields;
-mod spans;
 mod form;
+pub mod parts;
+mod spans;
+
 pub use form::read;
