@@ -1,0 +1,4 @@
+pub mod Rows
+pub mod Sip
+pub mod Sheet
+pub mod Kinds
