@@ -1,60 +1,77 @@
 -- The seals inside a letter: whose they are and what they stand on, in the order of the bytes.
 use mathlib.Core.List.{List, [], _∷_, _++_}
-use Prim.Native.Nat.{ℕ, _+_}
+use Prim.Native.Nat.{ℕ, zero, suc, _+_}
+use lib.ListN.{getD}
 use Rattle.std.specs.declared.option.Option.{Option}
 use Rattle.std.specs.declared.option.Option.the-variants.{Some, None}
 use Rattle.terms.specs.declared.numbers.Change.{Change}
 use Rattle.terms.specs.declared.numbers.KeyNumber.{KeyNumber}
+use Rattle.terms.specs.declared.numbers.View.{View}
 use Rattle.terms.specs.declared.sizes.Sizes.{Sizes}
+use Rattle.terms.specs.declared.parties.Outcome.{Outcome}
 use Rattle.terms.specs.declared.parties.Party.{Party}
 use Rattle.terms.specs.declared.parties.Party.the-variants.{Controller, Lock, Office}
 use Rattle.terms.specs.Numbers.{seat, place}
 use Rattle.terms.specs.Parties.{leaderOf}
+use Rattle.letters.specs.declared.sorts.Digest.{Digest}
 use Rattle.letters.specs.declared.sorts.Seal.{Seal}
 use Rattle.letters.specs.declared.certificates.Certificate.{Certificate}
 use Rattle.letters.specs.declared.certificates.Basis.{Basis}
 use Rattle.letters.specs.declared.certificates.Vote.{Vote}
 use Rattle.letters.specs.declared.bodies.Body.{Body}
 use Rattle.letters.specs.declared.bodies.Body.the-variants as B
+use Rattle.letters.specs.declared.statements.Borne.{Borne}
 use Rattle.letters.specs.declared.statements.Statement.{Statement}
 use Rattle.letters.specs.Certificates.{certificateDigest}
 use Rattle.letters.specs.Statements.{orderStatement, enrolStatement, voteStatement, proposalStatement, assentStatement}
 
--- a seal that a letter bears: its party, and the statement that it stands on
-pub record Borne : Type 0 where
-  pub party : Party
-  pub statement : Statement
-  pub seal : Seal
-
 abbrev pub bears : Party → Statement → Seal → Borne
 bears q s z = record { party = q; statement = s; seal = z }
 
--- one seal for each row that has something, the rows rising from k
-unfoldable pub rowsBorne : {A : Type 0} → (ℕ → A → Borne) → ℕ → List (Option A) → List Borne
-rowsBorne g k [] = []
-rowsBorne g k (None ∷ rs) = rowsBorne g (k + 1) rs
-rowsBorne g k (Some a ∷ rs) = g k a ∷ rowsBorne g (k + 1) rs
+abbrev pub consed : {A : Type 0} → Option A → List A → List A
+consed None rest = rest
+consed (Some a) rest = a ∷ rest
 
-abbrev pub enrolBorne : Change → ℕ → Seal → Borne
-enrolBorne t p z = bears (Lock (place p)) (enrolStatement t (place p)) z
+-- what n rows bear, the rows rising from k
+unfoldable pub rowsBorne : (ℕ → Option Borne) → ℕ → ℕ → List Borne
+rowsBorne row k zero = []
+rowsBorne row k (suc n) = consed (row k) (rowsBorne row (k + 1) n)
 
-abbrev pub voteBorne : Change → Option KeyNumber → ℕ → Vote → Borne
-voteBorne t n p v = bears (Lock (place p)) (voteStatement t (place p) n (v .answer)) (v .seal)
+-- a seal in row p is lock p's, on its enrolment
+abbrev pub enrolBorne : Change → ℕ → Option Seal → Option Borne
+enrolBorne t p None = None
+enrolBorne t p (Some z) = Some (bears (Lock (place p)) (enrolStatement t (place p)) z)
+
+abbrev pub enrolRow : Change → List (Option Seal) → ℕ → Option Borne
+enrolRow t rows p = enrolBorne t p (getD rows p None)
+
+-- a vote in row p is lock p's, for the ordered number
+abbrev pub voteBorne : Change → Option KeyNumber → ℕ → Option Vote → Option Borne
+voteBorne t n p None = None
+voteBorne t n p (Some v) = Some (bears (Lock (place p)) (voteStatement t (place p) n (v .answer)) (v .seal))
+
+abbrev pub voteRow : Change → Option KeyNumber → List (Option Vote) → ℕ → Option Borne
+voteRow t n rows p = voteBorne t n p (getD rows p None)
 
 -- the office's order, the enrolments, the votes
 abbrev pub certificateBorne : Change → Certificate → List Borne
 certificateBorne t c =
     bears Office (orderStatement t (c .order .number)) (c .order .seal)
-    ∷ (rowsBorne (enrolBorne t) 0 (c .enrolled) ++ rowsBorne (voteBorne t (c .order .number)) 0 (c .votes))
+    ∷ (rowsBorne (enrolRow t (c .enrolled)) 0 8 ++ rowsBorne (voteRow t (c .order .number) (c .votes)) 0 8)
 
-abbrev pub assentBorne : Change → Basis → ℕ → Seal → Borne
-assentBorne t b s z = bears (Controller (seat s)) (assentStatement t (seat s) (b .view) (b .outcome) (certificateDigest (b .certificate))) z
+-- a seal in row s is seat s's, on its assent to an outcome in a view
+abbrev pub assentBorne : Change → View → Outcome → Digest → ℕ → Option Seal → Option Borne
+assentBorne t u x d s None = None
+assentBorne t u x d s (Some z) = Some (bears (Controller (seat s)) (assentStatement t (seat s) u x d) z)
+
+abbrev pub assentRow : Change → View → Outcome → Digest → List (Option Seal) → ℕ → Option Borne
+assentRow t u x d rows s = assentBorne t u x d s (getD rows s None)
 
 -- the leader's proposal and the assents of the basis' view, with its outcome and digest
 abbrev pub basisBorne : Sizes → Change → Basis → List Borne
 basisBorne sizes t b =
     bears (Controller (leaderOf sizes t (b .view))) (proposalStatement t (leaderOf sizes t (b .view)) (b .view) (b .outcome) (certificateDigest (b .certificate))) (b .«leader_seal»)
-    ∷ rowsBorne (assentBorne t b) 0 (b .assents)
+    ∷ rowsBorne (assentRow t (b .view) (b .outcome) (certificateDigest (b .certificate)) (b .assents)) 0 16
 
 abbrev pub groundsBorne : Sizes → Change → Option Basis → List Borne
 groundsBorne sizes t None = []

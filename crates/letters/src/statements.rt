@@ -6,6 +6,7 @@ use crate::bodies::Brief;
 use crate::sorts::Answer;
 use crate::sorts::Digest;
 use crate::sorts::Kind;
+use crate::sorts::Seal;
 use terms::numbers::Change;
 use terms::numbers::KeyNumber;
 use terms::numbers::Place;
@@ -26,6 +27,14 @@ pub struct Statement {
     pub answer: Option<Answer>,
     pub basis: Option<View>,
     pub digest: Option<Digest>,
+}
+
+// A seal that a letter bears: whose it is, and the statement that it stands on.
+#[derive(Clone, Copy)]
+pub struct Borne {
+    pub party: Party,
+    pub statement: Statement,
+    pub seal: Seal,
 }
 
 fn outcome_number(outcome: Outcome) -> Option<KeyNumber>

@@ -1,0 +1,2 @@
+// Seals on letters: the scratch guard, opening and sealing.
+mod guard;

@@ -1,0 +1,9 @@
+use native.Mathlib.Omega.{arith}
+use Rattle.writing.proofs.Puts.{put-put}
+use Rattle.writing.proofs.bodies.put_summons.Needs as need
+
+pub returns : need.returns
+returns c = record {
+  put = rw (← c .value .ensures) (put-put (put-put (c .put-head-at .ensures .put) (c .put-four-at .ensures .put)) (c .put-eight .ensures .put));
+  bound = omega arith;
+}
