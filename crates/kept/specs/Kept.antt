@@ -64,6 +64,12 @@ basisIn g = record {
   assents = rowsAt 16 (twoAt (g .basis .bytes) 1) (g .basis .bytes) 11;
 }
 
--- a letter that was read, with its certificate and its basis as values
+abbrev pub certificateOf : Span → Certificate
+certificateOf c = certificateIn (c .bytes)
+
+-- what a letter that was read says, with its certificate and its basis as values
+abbrev pub keptBody : Body Span Spans → Body Certificate Basis
+keptBody b = retold certificateOf basisIn b
+
 abbrev pub kept : Letter Span Spans → Letter Certificate Basis
-kept l = letter (l .change) (retold (λ (c : Span). certificateIn (c .bytes)) basisIn (l .body)) (l .seal)
+kept l = letter (l .change) (keptBody (l .body)) (l .seal)

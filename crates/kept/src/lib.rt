@@ -6,7 +6,9 @@ ghost use lib.Count.{ones};
 ghost use lib.ListN.{length, getD};
 ghost use Rattle.letters.specs.Bytes.{twoAt, fourAt, eightAt, rowAt, afterRow, rowsAt};
 ghost use Rattle.kept.specs.Kept as Kept;
-ghost use Rattle.reading.specs.Parts.{spans};
+ghost use Rattle.letters.specs.Bodies.{eachBasis, retold};
+ghost use Rattle.reading.specs.Parts.{span, spans};
+use letters::bodies::Body;
 use letters::certificates::Basis;
 use letters::certificates::Certificate;
 use letters::certificates::Order;
@@ -181,5 +183,88 @@ pub fn basis_in(grounds: Grounds) -> Basis
         certificate: certificate_in(grounds.certificate),
         leader_seal: Seal(eight_at(bytes, 3)),
         assents,
+    }
+}
+
+fn basis_if(grounds: Option<Grounds>) -> Option<Basis>
+    ensures { λ r. ⌜ r ≡ eachBasis Kept.basisIn (eachBasis spans (grounds .entry)) ⌝ }
+{
+    match grounds {
+        Some(grounds) => Some(basis_in(grounds)),
+        None => None,
+    }
+}
+
+// What a letter that was read says, with its certificate and its basis as values.
+pub fn keep(body: Body<Part, Grounds>) -> Body<Certificate, Basis>
+    ensures { λ r. ⌜ r ≡ Kept.keptBody (retold span spans (body .entry)) ⌝ }
+{
+    match body {
+        Body::Enrol { sender } => Body::Enrol { sender },
+        Body::Receipt { sender, place } => Body::Receipt { sender, place },
+        Body::Order { number } => Body::Order { number },
+        Body::Summons {
+            sender,
+            number,
+            office_seal,
+        } => Body::Summons {
+            sender,
+            number,
+            office_seal,
+        },
+        Body::Vote {
+            sender,
+            number,
+            answer,
+        } => Body::Vote {
+            sender,
+            number,
+            answer,
+        },
+        Body::Proposal {
+            sender,
+            view,
+            outcome,
+            certificate,
+            movers,
+        } => Body::Proposal {
+            sender,
+            view,
+            outcome,
+            certificate: certificate_in(certificate),
+            movers,
+        },
+        Body::Assent {
+            sender,
+            view,
+            outcome,
+            digest,
+        } => Body::Assent {
+            sender,
+            view,
+            outcome,
+            digest,
+        },
+        Body::Confirm {
+            sender,
+            view,
+            outcome,
+            digest,
+        } => Body::Confirm {
+            sender,
+            view,
+            outcome,
+            digest,
+        },
+        Body::Result { sender, outcome } => Body::Result { sender, outcome },
+        Body::Move {
+            sender,
+            view,
+            basis,
+        } => Body::Move {
+            sender,
+            view,
+            basis: basis_if(basis),
+        },
     }
 }

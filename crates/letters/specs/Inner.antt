@@ -6,12 +6,14 @@ use Rattle.std.specs.declared.option.Option.{Option}
 use Rattle.std.specs.declared.option.Option.the-variants.{Some, None}
 use Rattle.terms.specs.declared.numbers.Change.{Change}
 use Rattle.terms.specs.declared.numbers.KeyNumber.{KeyNumber}
+use Rattle.terms.specs.declared.numbers.Place.{Place}
+use Rattle.terms.specs.declared.numbers.Seat.{Seat}
 use Rattle.terms.specs.declared.numbers.View.{View}
 use Rattle.terms.specs.declared.sizes.Sizes.{Sizes}
 use Rattle.terms.specs.declared.parties.Outcome.{Outcome}
 use Rattle.terms.specs.declared.parties.Party.{Party}
 use Rattle.terms.specs.declared.parties.Party.the-variants.{Controller, Lock, Office}
-use Rattle.terms.specs.Numbers.{seat, place}
+use Rattle.terms.specs.Numbers.{seatOf, placeOf}
 use Rattle.terms.specs.Parties.{leaderOf}
 use Rattle.letters.specs.declared.sorts.Digest.{Digest}
 use Rattle.letters.specs.declared.sorts.Seal.{Seal}
@@ -38,20 +40,22 @@ rowsBorne row k zero = []
 rowsBorne row k (suc n) = consed (row k) (rowsBorne row (k + 1) n)
 
 -- a seal in row p is lock p's, on its enrolment
-abbrev pub enrolBorne : Change → ℕ → Option Seal → Option Borne
-enrolBorne t p None = None
-enrolBorne t p (Some z) = Some (bears (Lock (place p)) (enrolStatement t (place p)) z)
+abbrev pub enrolBorne : Change → Option Place → Option Seal → Option Borne
+enrolBorne t None z = None
+enrolBorne t (Some p) None = None
+enrolBorne t (Some p) (Some z) = Some (bears (Lock p) (enrolStatement t p) z)
 
 abbrev pub enrolRow : Change → List (Option Seal) → ℕ → Option Borne
-enrolRow t rows p = enrolBorne t p (getD rows p None)
+enrolRow t rows k = enrolBorne t (placeOf k) (getD rows k None)
 
 -- a vote in row p is lock p's, for the ordered number
-abbrev pub voteBorne : Change → Option KeyNumber → ℕ → Option Vote → Option Borne
-voteBorne t n p None = None
-voteBorne t n p (Some v) = Some (bears (Lock (place p)) (voteStatement t (place p) n (v .answer)) (v .seal))
+abbrev pub voteBorne : Change → Option KeyNumber → Option Place → Option Vote → Option Borne
+voteBorne t n None v = None
+voteBorne t n (Some p) None = None
+voteBorne t n (Some p) (Some v) = Some (bears (Lock p) (voteStatement t p n (v .answer)) (v .seal))
 
 abbrev pub voteRow : Change → Option KeyNumber → List (Option Vote) → ℕ → Option Borne
-voteRow t n rows p = voteBorne t n p (getD rows p None)
+voteRow t n rows k = voteBorne t n (placeOf k) (getD rows k None)
 
 -- the office's order, the enrolments, the votes
 abbrev pub certificateBorne : Change → Certificate → List Borne
@@ -60,12 +64,13 @@ certificateBorne t c =
     ∷ (rowsBorne (enrolRow t (c .enrolled)) 0 8 ++ rowsBorne (voteRow t (c .order .number) (c .votes)) 0 8)
 
 -- a seal in row s is seat s's, on its assent to an outcome in a view
-abbrev pub assentBorne : Change → View → Outcome → Digest → ℕ → Option Seal → Option Borne
-assentBorne t u x d s None = None
-assentBorne t u x d s (Some z) = Some (bears (Controller (seat s)) (assentStatement t (seat s) u x d) z)
+abbrev pub assentBorne : Change → View → Outcome → Digest → Option Seat → Option Seal → Option Borne
+assentBorne t u x d None z = None
+assentBorne t u x d (Some s) None = None
+assentBorne t u x d (Some s) (Some z) = Some (bears (Controller s) (assentStatement t s u x d) z)
 
 abbrev pub assentRow : Change → View → Outcome → Digest → List (Option Seal) → ℕ → Option Borne
-assentRow t u x d rows s = assentBorne t u x d s (getD rows s None)
+assentRow t u x d rows k = assentBorne t u x d (seatOf k) (getD rows k None)
 
 -- the leader's proposal and the assents of the basis' view, with its outcome and digest
 abbrev pub basisBorne : Sizes → Change → Basis → List Borne

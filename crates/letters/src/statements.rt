@@ -145,11 +145,7 @@ impl Statement {
                 sender,
                 number,
                 answer,
-            } => {
-                let mut statement = numbered(Kind::Vote, change, Party::Lock(sender), Some(number));
-                statement.answer = Some(answer);
-                statement
-            }
+            } => Statement::of_vote(change, sender, Some(number), answer),
             Body::Proposal {
                 sender,
                 view,
@@ -183,5 +179,19 @@ impl Statement {
                 basis,
             } => of_move(change, sender, view, basis),
         }
+    }
+
+    // A vote on an order, which may be a cancel.
+    pub fn of_vote(
+        change: Change,
+        sender: Place,
+        number: Option<KeyNumber>,
+        answer: Answer,
+    ) -> Statement
+        ensures { λ r. ⌜ r ≡ Statements.voteStatement change sender number answer ⌝ }
+    {
+        let mut statement = numbered(Kind::Vote, change, Party::Lock(sender), number);
+        statement.answer = Some(answer);
+        statement
     }
 }

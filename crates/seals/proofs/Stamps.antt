@@ -29,6 +29,7 @@ module _ (s : Statement) (xs ys : List ℕ) (h : 24 ≤ length xs) (e : ys ≡ w
   take-stamped = ap (take 24) (stamped s xs ys h e) ∙ take-at (statementBytes s) (drop 24 xs) 24 (statement-length s)
 
   pub cleared-stamped : cleared ys ≡ cleared xs
+  unfolding cleared
   cleared-stamped = ap (λ z. cleared z) (stamped s xs ys h e) ∙ ap (λ t. replicate 24 0 ++ t) (drop-at (statementBytes s) (drop 24 xs) 24 (statement-length s))
 
   pub length-stamped : 24 ≤ length ys

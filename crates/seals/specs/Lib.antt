@@ -1,1 +1,4 @@
 pub mod Scratch
+pub mod Opening
+pub mod Opened
+pub mod Sealing

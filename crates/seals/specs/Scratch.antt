@@ -6,7 +6,7 @@ use lib.Dec.{leb}
 use lib.ListN.{length, drop, replicate}
 
 -- the first 24 bytes are zero, and the others are as they were
-abbrev pub cleared : List ℕ → List ℕ
+unfoldable pub cleared : List ℕ → List ℕ
 cleared xs = replicate 24 0 ++ drop 24 xs
 
 -- room for a statement

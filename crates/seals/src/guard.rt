@@ -15,7 +15,7 @@ use terms::parties::Party;
 use writing::statements::stamp;
 
 pub(crate) struct Guard<'a> {
-    bytes: &'a mut [u8],
+    pub(crate) bytes: &'a mut [u8],
 }
 
 impl Drop for Guard<'_> {

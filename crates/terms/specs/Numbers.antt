@@ -30,6 +30,13 @@ key n = record { 0 = n }
 abbrev pub within : {A : Type 0} → Bool → A → Option A
 within ok x = cond ok (Some x) None
 
+-- the seats of any vault: 0 to 15
+abbrev pub isSeat : ℕ → Bool
+isSeat n = ltb n 16
+
+abbrev pub seatOf : ℕ → Option Seat
+seatOf n = within (isSeat n) (seat n)
+
 -- the places of any vault or board: 0 to 7
 abbrev pub isPlace : ℕ → Bool
 isPlace n = ltb n 8

@@ -1,6 +1,6 @@
 // Five sorts of number, none of which passes for another.
 ghost use mathlib.Core.Path.{_≡_};
-ghost use Rattle.terms.specs.Numbers.{placeOf, viewOf, changeOf, keyOf};
+ghost use Rattle.terms.specs.Numbers.{seatOf, placeOf, viewOf, changeOf, keyOf};
 
 // A controller's number in its vault, 0 to 15.
 #[derive(Clone, Copy, PartialEq, Eq)]
@@ -23,6 +23,12 @@ pub struct Change(u32);
 pub struct KeyNumber(u32);
 
 impl Seat {
+    pub fn new(n: u32) -> Option<Seat>
+        ensures { λ r. ⌜ r ≡ seatOf n ⌝ }
+    {
+        if n < 16 { Some(Seat(n as u8)) } else { None }
+    }
+
     pub fn number(self) -> u8
         ensures { λ r. ⌜ r ≡ self .0 ⌝ }
     {

@@ -1,20 +1,16 @@
 -- Room or no room.
-use mathlib.Core.Path.{_≡_, refl, ap, sym, _∙_}
-use mathlib.Core.Bool.{Bool, true, false, cond}
+use mathlib.Core.Path.{_≡_, refl, ap, sym}
+use mathlib.Core.Bool.{cond}
 use mathlib.Core.List.{List}
 use Prim.Native.Nat.{ℕ, _<_, _≤_}
 use lib.ListN.{length}
 use Rattle.std.proofs.shelf.Tests.{le-leb, lt-leb}
-use Rattle.std.specs.declared.result.Result.{Result}
 use Rattle.std.specs.declared.result.Result.the-variants.{Ok, Err}
-use Rattle.terms.specs.declared.refusals.Refusal.{Refusal}
 use Rattle.terms.specs.Refusals.{no-room}
 use Rattle.letters.specs.declared.statements.Statement.{Statement}
 use Rattle.letters.specs.Bytes.{le4, le8, written}
 use Rattle.letters.specs.Statements.{statementBytes}
-use Rattle.writing.specs.Puts.{Put}
 use Rattle.writing.specs.Writing.{ifRoom, writeBuffer}
-use Rattle.writing.proofs.Puts.{put-written}
 
 pub answer-room : {A : Type 0} (a : A) (ys xs : List ℕ) → length ys ≤ length xs → Ok a ≡ ifRoom a ys xs
 answer-room a ys xs h = sym (ap (λ b. cond b (Ok a) (Err no-room)) (le-leb (length ys) (length xs) h))

@@ -3,15 +3,13 @@ use mathlib.Core.Path.{_≡_, refl, ap, sym, _∙_}
 use mathlib.Core.List.{List, [], _∷_, _++_}
 use Prim.Native.Nat.{ℕ, _+_, _<_}
 use lib.ListN.{length, take, getD}
-use Rattle.std.proofs.shelf.Lists.{append-assoc, append-nil, take-more, take-all}
+use Rattle.std.proofs.shelf.Lists.{append-assoc, append-nil, take-more}
 use Rattle.std.specs.declared.option.Option.{Option}
 use Rattle.std.specs.declared.option.Option.the-variants.{Some, None}
 use Rattle.letters.specs.declared.sorts.Seal.{Seal}
 use Rattle.letters.specs.declared.certificates.Vote.{Vote}
 use Rattle.letters.specs.Bytes.{sealBytes, rowBytes}
 use Rattle.letters.specs.Certificates.{voteSeal, voteSeals}
-use Rattle.writing.specs.Puts.{Put}
-use Rattle.writing.proofs.Puts.{put-put}
 
 pub rows-none : rowBytes [] ≡ []
 unfolding rowBytes

@@ -1,6 +1,6 @@
 // What a letter says, as bytes: all of it but its seal.
 ghost use mathlib.Core.Path.{_≡_};
-ghost use Prim.Native.Nat.{ℕ, _+_, _≤_};
+ghost use Prim.Native.Nat.{_+_, _≤_};
 ghost use lib.ListN.{length};
 ghost use Rattle.letters.specs.Statements.{outcomeNumber};
 ghost use Rattle.letters.specs.Layout as Layout;

@@ -27,6 +27,7 @@ fn brief_if(basis: &Option<Basis>) -> Option<Brief>
     }
 }
 
+// The same letter, with a digest for its certificate and a brief for its basis.
 pub fn in_brief(body: &Body<Certificate, Basis>) -> Body<Digest, Brief>
     ensures { λ r. ⌜ r ≡ inBrief (now (body .entry)) ⌝ }
 {

@@ -1,6 +1,6 @@
 // A certificate's bytes, and their digest.
 ghost use mathlib.Core.Path.{_≡_};
-ghost use Prim.Native.Nat.{ℕ, _+_, _≤_};
+ghost use Prim.Native.Nat.{_+_, _≤_};
 ghost use lib.ListN.{length};
 ghost use Rattle.letters.specs.Certificates.{orderFlag, certificateBytes, certificateDigest};
 ghost use Rattle.writing.specs.Puts.{Put};
@@ -44,6 +44,7 @@ pub(crate) fn put_certificate(out: &mut [u8], at: usize, certificate: &Certifica
     put_votes(out, at, &certificate.votes)
 }
 
+// The digest of a certificate is that of its bytes.
 pub fn certificate_digest(certificate: &Certificate) -> Digest
     ensures { λ r. ⌜ r ≡ certificateDigest (now (certificate .entry)) ⌝ }
 {

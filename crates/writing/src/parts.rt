@@ -1,6 +1,6 @@
 // Parts of a letter, put into a buffer one after another.
 ghost use mathlib.Core.Path.{_≡_};
-ghost use Prim.Native.Nat.{ℕ, _+_, _*_, _≤_};
+ghost use Prim.Native.Nat.{_+_, _*_, _≤_};
 ghost use lib.ListN.{length};
 ghost use Rattle.terms.specs.Refusals as Refusals;
 ghost use Rattle.letters.specs.Bytes.{le2, le4, le8, sealBytes, rowBytes};

@@ -1,6 +1,6 @@
 // A statement's bytes.
 ghost use mathlib.Core.Path.{_≡_};
-ghost use Prim.Native.Nat.{ℕ, _+_, _≤_};
+ghost use Prim.Native.Nat.{_≤_};
 ghost use lib.ListN.{length};
 ghost use Rattle.letters.specs.Statements.{placeByte, viewByte, numberWord, digestWord, saysReady, flagsOf, statementBytes};
 ghost use Rattle.writing.specs.Puts.{Put};
@@ -90,7 +90,7 @@ fn put_statement(out: &mut [u8], statement: Statement) -> usize
     put_eight(out, at, digest_word(statement.digest))
 }
 
-// Writes the statement's 24 bytes over the start of a buffer.
+// Writes the statement's 24 bytes over the start of a buffer, or nothing if it is shorter.
 pub fn stamp(statement: Statement, out: &mut [u8]) -> Result<(), Refusal>
     ensures answer { λ r. ⌜ r ≡ ifRoom tt (statementBytes statement) (now (out .entry)) ⌝ }
     ensures buffer { λ _. ⌜ now (out .exit) ≡ writeBuffer (statementBytes statement) (now (out .entry)) ⌝ }

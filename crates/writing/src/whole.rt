@@ -1,9 +1,8 @@
 // Whole letters as bytes.
 ghost use mathlib.Core.Path.{_≡_};
 ghost use mathlib.Core.List.{_++_};
-ghost use Prim.Native.Nat.{ℕ, _+_, _≤_};
+ghost use Prim.Native.Nat.{_+_, _≤_};
 ghost use lib.ListN.{length};
-ghost use Rattle.letters.specs.Bytes.{written};
 ghost use Rattle.letters.specs.Layout.{layout};
 ghost use Rattle.writing.specs.Longest.{longestOf, Suffices};
 ghost use Rattle.writing.specs.Puts.{Put};
@@ -18,7 +17,7 @@ use letters::certificates::Certificate;
 use terms::refusals::Refusal;
 use terms::sizes::Sizes;
 
-// No letter is longer, whatever the sizes of the vault.
+// No letter is longer, even with a seal in every row.
 const LONGEST: usize = 301;
 
 fn put_letter(out: &mut [u8], letter: &Letter<Certificate, Basis>) -> usize
@@ -30,7 +29,16 @@ fn put_letter(out: &mut [u8], letter: &Letter<Certificate, Basis>) -> usize
     put_eight(out, at, letter.seal.0)
 }
 
-// Writes the letter over the start of a buffer, and says how long it is.
+// How many bytes the letter has.
+pub fn length_of(letter: &Letter<Certificate, Basis>) -> usize
+    ensures { λ r. ⌜ r ≡ length (layout (now (letter .entry))) ⌝ }
+{
+    let mut bytes = [0; LONGEST];
+    put_letter(&mut bytes, letter)
+}
+
+// Writes the letter over the start of a buffer, and says how long it is. Where there is
+// no room for all of it, nothing is written.
 pub fn write(letter: &Letter<Certificate, Basis>, out: &mut [u8]) -> Result<usize, Refusal>
     ensures answer { λ r. ⌜ r ≡ writeAnswer (layout (now (letter .entry))) (now (out .entry)) ⌝ }
     ensures buffer { λ _. ⌜ now (out .exit) ≡ writeBuffer (layout (now (letter .entry))) (now (out .entry)) ⌝ }
@@ -60,7 +68,8 @@ fn put_both(
     (n, m)
 }
 
-// Writes two letters, the second right after the first, and says how long each is.
+// Writes two letters, the second right after the first, and says how long each is. Where
+// there is no room for both, nothing is written.
 pub fn write_both(
     first: &Letter<Certificate, Basis>,
     second: &Letter<Certificate, Basis>,

@@ -11,9 +11,9 @@ use Rattle.writing.proofs.whole.write.Needs as need
 pub returns : need.returns
 returns c =
     let ys = layout (c .args .letter .now) in let xs = c .args .out .now in
-    let e : c .put-letter-n .result ≡ length ys = put-count (c .put-letter-n .ensures .put) in
+    let e : c .put-letter-n .result ≡ length ys = put-count {ys = ys} (c .put-letter-n .ensures .put) in
     let room : length ys ≤ length xs = omega arith in
     record {
       answer = ap Ok e ∙ answer-room (length ys) ys xs room;
-      buffer = put-written (rw (put-front (c .put-letter-n .ensures .put)) at (c .put-at .ensures)) ∙ buffer-room ys xs room;
+      buffer = put-written (rw (put-front {ys = ys} (c .put-letter-n .ensures .put)) at (c .put-at .ensures)) ∙ buffer-room ys xs room;
     }

@@ -1,0 +1,61 @@
+// Sealing a letter, and sending it.
+ghost use mathlib.Core.Path.{_≡_};
+ghost use mathlib.Core.Bool.{Bool, true};
+ghost use Prim.Native.Nat.{ℕ, _+_, _<_, _≤_};
+ghost use lib.ListN.{length};
+ghost use Rattle.letters.specs.Bodies.{letter};
+ghost use Rattle.letters.specs.Layout.{layout};
+ghost use Rattle.terms.specs.Refusals as Refusals;
+ghost use Rattle.seals.specs.Opening.{accepted, senderBorne};
+ghost use Rattle.seals.specs.Scratch.{roomy, scratchAfter};
+ghost use Rattle.seals.specs.Sealing.{sealIn, sealAnswer, sealOf, sendAnswer, sendBuffer, sendScratch};
+use crate::accepting::sender_borne;
+use crate::guard::over;
+use letters::bodies::Body;
+use letters::bodies::Letter;
+use letters::certificates::Basis;
+use letters::certificates::Certificate;
+use letters::sorts::Seal;
+use schemes::scheme::Scheme;
+use terms::numbers::Change;
+use terms::refusals::CallCause;
+use terms::refusals::Cause;
+use terms::refusals::Refusal;
+use writing::whole::length_of;
+use writing::whole::write;
+
+// What was sent: how many bytes, under which seal.
+#[derive(Clone, Copy)]
+pub struct Sent {
+    pub length: usize,
+    pub seal: Seal,
+}
+
+fn no_room() -> Refusal
+    ensures { λ r. ⌜ r ≡ Refusals.no-room ⌝ }
+{
+    Refusal {
+        cause: Cause::Call(CallCause::NoRoom),
+        place: 0,
+    }
+}
+
+// The letter under its sender's seal.
+pub fn seal_letter<S: Scheme>(
+    scheme: &S,
+    change: Change,
+    body: Body<Certificate, Basis>,
+    scratch: &mut [u8],
+) -> Result<Letter<Certificate, Basis>, Refusal>
+    ensures answer { λ r. ⌜ r ≡ sealAnswer change body (sealIn r) (now (scratch .entry)) ⌝ }
+    ensures sealed { λ r. ⌜ (roomy (now (scratch .entry)) ≡ true → accepted (S·Scheme .holds (now (scheme .entry))) (senderBorne change body (sealIn r)) ≡ true) ⌝ }
+    ensures scratch_cleared { λ _. ⌜ now (scratch .exit) ≡ scratchAfter (now (scratch .entry)) ⌝ }
+{
+    if scratch.len() < 24 {
+        return Err(no_room());
+    }
+    let mut guard = over(scratch);
+    let unsealed = sender_borne(change, &body, Seal(0));
+    let seal = guard.seal(scheme, unsealed.party, unsealed.statement);
+    Ok(Letter { change, body, seal })
+}
