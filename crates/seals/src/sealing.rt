@@ -3,6 +3,7 @@ ghost use mathlib.Core.Path.{_≡_};
 ghost use mathlib.Core.Bool.{Bool, true};
 ghost use Prim.Native.Nat.{ℕ, _+_, _<_, _≤_};
 ghost use lib.ListN.{length};
+ghost use Rattle.std.specs.Results.{isOk};
 ghost use Rattle.letters.specs.Bodies.{letter};
 ghost use Rattle.letters.specs.Layout.{layout};
 ghost use Rattle.terms.specs.Refusals as Refusals;
@@ -58,4 +59,37 @@ pub fn seal_letter<S: Scheme>(
     let unsealed = sender_borne(change, &body, Seal(0));
     let seal = guard.seal(scheme, unsealed.party, unsealed.statement);
     Ok(Letter { change, body, seal })
+}
+
+// Seals the letter and writes it over the start of the output buffer. Where a
+// buffer is too small, nothing is touched.
+pub fn send<S: Scheme>(
+    scheme: &S,
+    change: Change,
+    body: Body<Certificate, Basis>,
+    scratch: &mut [u8],
+    out: &mut [u8],
+) -> Result<Sent, Refusal>
+    ensures answer { λ r. ⌜ r ≡ sendAnswer (letter change body (sealOf r)) (now (scratch .entry)) (now (out .entry)) ⌝ }
+    ensures sealed { λ r. ⌜ (isOk r ≡ true → accepted (S·Scheme .holds (now (scheme .entry))) (senderBorne change body (sealOf r)) ≡ true) ⌝ }
+    ensures output { λ r. ⌜ now (out .exit) ≡ sendBuffer (letter change body (sealOf r)) (now (scratch .entry)) (now (out .entry)) ⌝ }
+    ensures scratch_cleared { λ r. ⌜ now (scratch .exit) ≡ sendScratch (letter change body (sealOf r)) (now (scratch .entry)) (now (out .entry)) ⌝ }
+{
+    let unsealed = Letter {
+        change,
+        body,
+        seal: Seal(0),
+    };
+    if scratch.len() < 24 {
+        return Err(no_room());
+    }
+    if out.len() < length_of(&unsealed) {
+        return Err(no_room());
+    }
+    let letter = seal_letter(scheme, change, body, scratch)?;
+    let length = write(&letter, out)?;
+    Ok(Sent {
+        length,
+        seal: letter.seal,
+    })
 }
