@@ -1,0 +1,3 @@
+// A lock and the office, by their rules.
+pub mod lock;
+mod rules;
