@@ -1,0 +1,5 @@
+// A controller, by its rules.
+pub mod controller;
+mod counts;
+pub mod rules;
+mod views;

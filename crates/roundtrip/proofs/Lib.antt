@@ -1,0 +1,10 @@
+pub mod Tells
+pub mod Pieces
+pub mod Rows
+pub mod Steps
+pub mod Fields
+pub mod Certificates
+pub mod Bases
+pub mod Maps
+pub mod Back
+pub mod Once
