@@ -11,7 +11,7 @@ use Rattle.std.specs.declared.option.Option.the-variants.{Some, None}
 use Rattle.terms.specs.declared.numbers.View.{View}
 use Rattle.letters.specs.declared.sorts.Seal.{Seal}
 use Rattle.controllers.specs.declared.controller.MoveRecord.{MoveRecord}
-use Rattle.controllers.specs.Choice.{standsIn, names, offer, better, best, allRecorded, covers}
+use Rattle.controllers.specs.Choice.{standsIn, names, offer, better, best, allRecorded, covers, addSeat, picked}
 
 pub best-none : (records : List (Option MoveRecord)) (movers : ℕ) (v : View) → best records movers v 0 ≡ None
 unfolding best
@@ -36,3 +36,11 @@ covers-none registered enrolled = refl
 pub covers-more : (registered enrolled : List (Option Seal)) (n : ℕ) → covers registered enrolled (n + 1) ≡ (covers registered enrolled n && (not (isSome (getD registered n None)) || isSome (getD enrolled n None)))
 unfolding covers
 covers-more registered enrolled n = ap (covers registered enrolled) (add-one n)
+
+pub picked-none : (records : List (Option MoveRecord)) (v : View) (quorum : ℕ) → picked records v quorum 0 ≡ record { map = 0; count = 0 }
+unfolding picked
+picked-none records v quorum = refl
+
+pub picked-more : (records : List (Option MoveRecord)) (v : View) (quorum n : ℕ) → picked records v quorum (n + 1) ≡ addSeat (picked records v quorum n) n quorum (names (getD records n None) v)
+unfolding picked
+picked-more records v quorum n = ap (picked records v quorum) (add-one n)

@@ -11,6 +11,7 @@ use Rattle.terms.specs.declared.numbers.View.{View}
 use Rattle.letters.specs.declared.sorts.Seal.{Seal}
 use Rattle.letters.specs.declared.certificates.Basis.{Basis}
 use Rattle.controllers.specs.declared.controller.MoveRecord.{MoveRecord}
+use Rattle.controllers.specs.declared.controller.Picked.{Picked}
 
 abbrev pub sameView : MoveRecord → MoveRecord → Bool
 sameView r q = eqb (r .view .0) (q .view .0)
@@ -51,3 +52,13 @@ allRecorded records movers v (suc n) = allRecorded records movers v n && (not (s
 unfoldable pub covers : List (Option Seal) → List (Option Seal) → ℕ → Bool
 covers registered enrolled zero = true
 covers registered enrolled (suc n) = covers registered enrolled n && (not (isSome (getD registered n None)) || isSome (getD enrolled n None))
+
+-- ---- the movers that a leader names: the lowest seats with a record of the view, as many as a quorum
+
+abbrev pub addSeat : Picked → ℕ → ℕ → Bool → Picked
+addSeat p s quorum named = cond (named && ltb (p .count) quorum) (record { map = p .map + 2 ^ s; count = p .count + 1 }) p
+
+-- among the first n seats
+unfoldable pub picked : List (Option MoveRecord) → View → ℕ → ℕ → Picked
+picked records v quorum zero = record { map = 0; count = 0 }
+picked records v quorum (suc n) = addSeat (picked records v quorum n) n quorum (names (getD records n None) v)

@@ -37,11 +37,12 @@ use Rattle.ballots.specs.declared.Pair.{Pair}
 use Rattle.ballots.specs.Counts.{countAgree}
 use Rattle.ballots.specs.Kinds.{sameOutcome, samePair}
 use Rattle.controllers.specs.declared.controller.Controller.{Controller}
+use Rattle.controllers.specs.declared.controller.Draft.{Draft}
 use Rattle.controllers.specs.declared.controller.MoveRecord.{MoveRecord}
 use Rattle.controllers.specs.declared.controller.Proposal.{Proposal}
 use Rattle.controllers.specs.declared.controller.Round.{Round}
 use Rattle.controllers.specs.declared.rules.Bodies.{Bodies}
-use Rattle.controllers.specs.Choice.{sameView, names, best, allRecorded, covers}
+use Rattle.controllers.specs.Choice.{sameView, names, best, allRecorded, covers, picked}
 
 -- refused, and nothing changes; or served: the controller, and what it sends
 pub data Reply : Type 0 where
@@ -324,3 +325,53 @@ mayRing u = refuse-if (leb 255 (u .view .0)) R.LastView (Ok tt)
 
 abbrev pub ringRule : Controller → Reply
 ringRule u = passing (mayRing u) (enterView u (viewOf (u .view .0 + 1)))
+
+-- ---- propose: 9 not the leader; 10 a proposal is held; 16 view above 0, and fewer than 2f + 1 records of it; 9 no choice and no order;
+-- a proposal is held and sent, and its order held if none is
+
+-- none in view 0; else the 2f + 1 lowest seats with a record of this view
+abbrev pub movers : Sizes → Controller → SeatSet
+movers sizes u = cond (eqb (u .view .0) 0) (seatSet 0) (seatSet (picked (u .records) (u .view) (quorumOf sizes) 16 .map))
+
+abbrev pub ownCertificate : Controller → Order → Certificate
+ownCertificate u o = record { order = o; enrolled = u .registered; votes = u .votes }
+
+abbrev pub draft : Outcome → Certificate → SeatSet → Draft
+draft x c m = record { outcome = x; certificate = c; movers = m }
+
+-- without a choice: the own order, registered places and votes
+abbrev pub ownDraft : Controller → SeatSet → Option Order → Option Draft
+ownDraft u m None = None
+ownDraft u m (Some o) = Some (draft (resultOf (ownCertificate u o)) (ownCertificate u o) m)
+
+-- a choice is repeated
+abbrev pub draftFrom : Controller → SeatSet → Option Basis → Option Draft
+draftFrom u m (Some b) = Some (draft (b .outcome) (b .certificate) m)
+draftFrom u m None = ownDraft u m (u .order)
+
+abbrev pub draftOf : Sizes → Controller → Option Draft
+draftOf sizes u = draftFrom u (movers sizes u) (choice u (movers sizes u))
+
+abbrev pub drafted : Option Draft → Result Draft RuleCause
+drafted None = Err R.OutOfTurn
+drafted (Some d) = Ok d
+
+abbrev pub mayPropose : Sizes → Change → Controller → Result Draft RuleCause
+mayPropose sizes t u =
+    cond (not (leads sizes t u)) (Err R.OutOfTurn)
+    (cond (isSome (u .round .proposal)) (Err R.Repeated)
+    (cond (not (eqb (u .view .0) 0) && ltb (recordCount u (u .view)) (quorumOf sizes)) (Err R.MoversMissing)
+    (drafted (draftOf sizes u))))
+
+-- `own` is the seal that the leader puts under its proposal
+abbrev pub proposed : Controller → Draft → Seal → Reply
+proposed u d own =
+    served (hold u (proposal (d .outcome) (d .certificate) (certificateDigest (d .certificate)) own))
+    (one (B.Proposal (u .seat) (u .view) (d .outcome) (d .certificate) (d .movers)))
+
+abbrev pub proposing : Controller → Result Draft RuleCause → Seal → Reply
+proposing u (Err c) own = refused c
+proposing u (Ok d) own = proposed u d own
+
+abbrev pub proposeRule : Sizes → Change → Controller → Seal → Reply
+proposeRule sizes t u own = proposing u (mayPropose sizes t u) own

@@ -6,6 +6,7 @@ use letters::certificates::Order;
 use letters::certificates::Vote;
 use letters::sorts::Digest;
 use letters::sorts::Seal;
+use letters::sorts::SeatSet;
 use terms::numbers::Seat;
 use terms::numbers::View;
 use terms::parties::Outcome;
@@ -33,6 +34,21 @@ pub struct Round {
 pub struct MoveRecord {
     pub(crate) view: View,
     pub(crate) basis: Option<Basis>,
+}
+
+// Seats that were picked: their map, and how many they are.
+#[derive(Clone, Copy)]
+pub struct Picked {
+    pub(crate) map: u16,
+    pub(crate) count: u8,
+}
+
+// What a leader is to propose.
+#[derive(Clone, Copy)]
+pub struct Draft {
+    pub(crate) outcome: Outcome,
+    pub(crate) certificate: Certificate,
+    pub(crate) movers: SeatSet,
 }
 
 #[derive(Clone, Copy)]

@@ -4,6 +4,7 @@ ghost use Prim.Native.Nat.{ℕ, _+_, _*_, _<_, _≤_, _^_};
 ghost use lib.ListN.{length, getD};
 ghost use Rattle.controllers.specs.Choice as Choice;
 use crate::controller::MoveRecord;
+use crate::controller::Picked;
 use ballots::Ballot;
 use ballots::entry;
 use letters::certificates::Basis;
@@ -59,7 +60,11 @@ fn better(best: Option<Basis>, next: Option<Basis>) -> Option<Basis>
     let Some(held) = best else {
         return Some(next);
     };
-    if held.view.number() < next.view.number() { Some(next) } else { Some(held) }
+    if held.view.number() < next.view.number() {
+        Some(next)
+    } else {
+        Some(held)
+    }
 }
 
 // The basis with the highest view among the movers' records of a view, the lowest seat at a tie.
@@ -68,7 +73,10 @@ pub(crate) fn choose(records: &[Option<MoveRecord>], movers: SeatSet, view: View
 {
     let mut best: Option<Basis> = None;
     for seat in 0..16u8 {
-        best = better(best, offer(stands(movers.0, seat), entry(records, seat), view));
+        best = better(
+            best,
+            offer(stands(movers.0, seat), entry(records, seat), view),
+        );
     }
     best
 }
@@ -93,4 +101,40 @@ pub(crate) fn covers(registered: &[Option<Seal>], enrolled: &[Option<Seal>]) -> 
         all = all && (entry(registered, place).is_none() || entry(enrolled, place).is_some());
     }
     all
+}
+
+fn bit_of(seat: u8) -> u16
+    requires { ⌜ seat < 16 ⌝ }
+    ensures { λ r. ⌜ r ≡ 2 ^ seat ⌝ }
+{
+    1 << seat
+}
+
+fn add_seat(picked: Picked, seat: u8, quorum: u8, named: bool) -> Picked
+    requires { ⌜ seat < 16 ⌝ ∗ ⌜ picked .map < 2 ^ seat ⌝ ∗ ⌜ picked .count ≤ seat ⌝ }
+    ensures value { λ r. ⌜ r ≡ Choice.addSeat picked seat quorum named ⌝ }
+    ensures map_bound { λ r. ⌜ r .map < 2 ^ (seat + 1) ⌝ }
+    ensures count_bound { λ r. ⌜ r .count ≤ seat + 1 ⌝ }
+{
+    if !named {
+        return picked;
+    }
+    if picked.count >= quorum {
+        return picked;
+    }
+    Picked {
+        map: picked.map + bit_of(seat),
+        count: picked.count + 1,
+    }
+}
+
+// The lowest seats with a record of the view, as many as a quorum.
+pub(crate) fn pick(records: &[Option<MoveRecord>], view: View, quorum: u8) -> SeatSet
+    ensures { λ r. ⌜ r .0 ≡ Choice.picked (now (records .entry)) view quorum 16 .map ⌝ }
+{
+    let mut picked = Picked { map: 0, count: 0 };
+    for seat in 0..16u8 {
+        picked = add_seat(picked, seat, quorum, names(entry(records, seat), view));
+    }
+    SeatSet(picked.map)
 }

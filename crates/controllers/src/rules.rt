@@ -129,7 +129,11 @@ impl Controller {
     }
 
     // The office orders: the order is held.
-    pub(crate) fn take_order(&mut self, number: Option<KeyNumber>, seal: Seal) -> Result<Bodies, RuleCause>
+    pub(crate) fn take_order(
+        &mut self,
+        number: Option<KeyNumber>,
+        seal: Seal,
+    ) -> Result<Bodies, RuleCause>
         ensures answer { λ r. ⌜ r ≡ Rules.sends (Rules.orderRule (now (self .entry)) number seal) ⌝ }
         ensures unit { λ _. ⌜ now (self .exit) ≡ Rules.after (now (self .entry)) (Rules.orderRule (now (self .entry)) number seal) ⌝ }
     {
@@ -157,7 +161,13 @@ impl Controller {
     }
 
     // A lock votes on the order: the vote is kept.
-    pub(crate) fn take_vote(&mut self, place: Place, number: KeyNumber, answer: Answer, seal: Seal) -> Result<Bodies, RuleCause>
+    pub(crate) fn take_vote(
+        &mut self,
+        place: Place,
+        number: KeyNumber,
+        answer: Answer,
+        seal: Seal,
+    ) -> Result<Bodies, RuleCause>
         ensures answer { λ r. ⌜ r ≡ Rules.sends (Rules.voteRule (now (self .entry)) place number answer seal) ⌝ }
         ensures unit { λ _. ⌜ now (self .exit) ≡ Rules.after (now (self .entry)) (Rules.voteRule (now (self .entry)) place number answer seal) ⌝ }
     {

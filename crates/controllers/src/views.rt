@@ -5,16 +5,21 @@ ghost use lib.ListN.{length};
 ghost use Rattle.std.specs.declared.result.Result.the-variants.{Ok};
 ghost use Rattle.controllers.specs.Rules as Rules;
 use crate::controller::Controller;
+use crate::controller::Draft;
 use crate::controller::MoveRecord;
 use crate::controller::Proposal;
 use crate::controller::Round;
+use crate::counts::MoveRecordBallot;
 use crate::counts::all_recorded;
 use crate::counts::choose;
 use crate::counts::covers;
+use crate::counts::pick;
 use crate::rules::Bodies;
 use crate::rules::one;
 use crate::rules::silent;
+use ballots::OutcomeBallot;
 use ballots::Pair;
+use ballots::PairBallot;
 use ballots::entry;
 use ballots::put;
 use ballots::tally;
@@ -32,9 +37,6 @@ use terms::parties::Outcome;
 use terms::refusals::RuleCause;
 use terms::sizes::Sizes;
 use writing::certificates::certificate_digest;
-use ballots::OutcomeBallot;
-use ballots::PairBallot;
-use crate::counts::MoveRecordBallot;
 
 fn or_else(held: Option<Order>, other: Order) -> Option<Order>
     ensures { λ r. ⌜ r ≡ Rules.orElse held other ⌝ }
@@ -100,7 +102,13 @@ impl Controller {
         choose(&self.records, movers, self.view)
     }
 
-    fn may_choose(&self, outcome: Outcome, certificate: &Certificate, digest: Digest, choice: Option<Basis>) -> Result<(), RuleCause>
+    fn may_choose(
+        &self,
+        outcome: Outcome,
+        certificate: &Certificate,
+        digest: Digest,
+        choice: Option<Basis>,
+    ) -> Result<(), RuleCause>
         ensures { λ r. ⌜ r ≡ Rules.mayChoose (now (self .entry)) outcome (now (certificate .entry)) digest choice ⌝ }
     {
         match choice {
@@ -292,7 +300,14 @@ impl Controller {
     }
 
     // A controller assents to the held proposal.
-    pub(crate) fn take_assent(&mut self, sizes: Sizes, seat: Seat, view: View, pair: Pair, seal: Seal) -> Result<Bodies, RuleCause>
+    pub(crate) fn take_assent(
+        &mut self,
+        sizes: Sizes,
+        seat: Seat,
+        view: View,
+        pair: Pair,
+        seal: Seal,
+    ) -> Result<Bodies, RuleCause>
         ensures answer { λ r. ⌜ r ≡ Rules.sends (Rules.assentRule sizes (now (self .entry)) seat view pair seal) ⌝ }
         ensures unit { λ _. ⌜ now (self .exit) ≡ Rules.after (now (self .entry)) (Rules.assentRule sizes (now (self .entry)) seat view pair seal) ⌝ }
     {
@@ -327,7 +342,13 @@ impl Controller {
     }
 
     // A controller confirms the held proposal.
-    pub(crate) fn take_confirm(&mut self, sizes: Sizes, seat: Seat, view: View, pair: Pair) -> Result<Bodies, RuleCause>
+    pub(crate) fn take_confirm(
+        &mut self,
+        sizes: Sizes,
+        seat: Seat,
+        view: View,
+        pair: Pair,
+    ) -> Result<Bodies, RuleCause>
         ensures answer { λ r. ⌜ r ≡ Rules.sends (Rules.confirmRule sizes (now (self .entry)) seat view pair) ⌝ }
         ensures unit { λ _. ⌜ now (self .exit) ≡ Rules.after (now (self .entry)) (Rules.confirmRule sizes (now (self .entry)) seat view pair) ⌝ }
     {
@@ -384,13 +405,25 @@ impl Controller {
     }
 
     // A controller moved to a view: its record is replaced, and f + 1 of them carry this one along.
-    pub(crate) fn take_move(&mut self, sizes: Sizes, seat: Seat, view: View, basis: Option<Basis>) -> Result<Bodies, RuleCause>
+    pub(crate) fn take_move(
+        &mut self,
+        sizes: Sizes,
+        seat: Seat,
+        view: View,
+        basis: Option<Basis>,
+    ) -> Result<Bodies, RuleCause>
         ensures answer { λ r. ⌜ r ≡ Rules.sends (Rules.moveRule sizes (now (self .entry)) seat view basis) ⌝ }
         ensures unit { λ _. ⌜ now (self .exit) ≡ Rules.after (now (self .entry)) (Rules.moveRule sizes (now (self .entry)) seat view basis) ⌝ }
     {
         self.may_move(seat, view, &basis)?;
-        put(&mut self.records, seat.number(), Some(MoveRecord { view, basis }));
-        if self.view.number() < view.number() && self.record_count(view) >= sizes.faults() as usize + 1 {
+        put(
+            &mut self.records,
+            seat.number(),
+            Some(MoveRecord { view, basis }),
+        );
+        if self.view.number() < view.number()
+            && self.record_count(view) >= sizes.faults() as usize + 1
+        {
             return Ok(self.enter_view(view));
         }
         Ok(silent())
@@ -406,5 +439,65 @@ impl Controller {
         }
         let next = View::new(self.view.number() + 1);
         Ok(self.enter_view(next))
+    }
+
+    fn movers(&self, sizes: Sizes) -> SeatSet
+        ensures { λ r. ⌜ r ≡ Rules.movers sizes (now (self .entry)) ⌝ }
+    {
+        if self.view.number() == 0 {
+            return SeatSet(0);
+        }
+        pick(&self.records, self.view, sizes.quorum())
+    }
+
+    // What the leader proposes: the choice again, or its own order, registered places and votes.
+    fn draft(&self, sizes: Sizes) -> Option<Draft>
+        ensures { λ r. ⌜ r ≡ Rules.draftOf sizes (now (self .entry)) ⌝ }
+    {
+        let movers = self.movers(sizes);
+        if let Some(basis) = self.choice(movers) {
+            return Some(Draft {
+                outcome: basis.outcome,
+                certificate: basis.certificate,
+                movers,
+            });
+        }
+        self.own_draft(movers)
+    }
+
+    fn own_draft(&self, movers: SeatSet) -> Option<Draft>
+        ensures { λ r. ⌜ r ≡ Rules.ownDraft (now (self .entry)) movers (now (self .entry) .order) ⌝ }
+    {
+        let Some(order) = self.order else {
+            return None;
+        };
+        let certificate = Certificate {
+            order,
+            enrolled: self.registered,
+            votes: self.votes,
+        };
+        Some(Draft {
+            outcome: certificate.result(),
+            certificate,
+            movers,
+        })
+    }
+
+    pub(crate) fn may_propose(&self, sizes: Sizes, change: Change) -> Result<Draft, RuleCause>
+        ensures { λ r. ⌜ r ≡ Rules.mayPropose sizes change (now (self .entry)) ⌝ }
+    {
+        if !self.leads(sizes, change) {
+            return Err(RuleCause::OutOfTurn);
+        }
+        if self.round.proposal.is_some() {
+            return Err(RuleCause::Repeated);
+        }
+        if self.view.number() != 0 && self.record_count(self.view) < sizes.quorum() as usize {
+            return Err(RuleCause::MoversMissing);
+        }
+        match self.draft(sizes) {
+            Some(draft) => Ok(draft),
+            None => Err(RuleCause::OutOfTurn),
+        }
     }
 }

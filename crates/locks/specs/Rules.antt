@@ -105,7 +105,7 @@ mayReceipt k s p =
     (refuse-if (isSome (getD (k .receipts) (s .0) None) || ltb 1 (rank (k .standing))) R.Repeated (Ok tt)))
 
 abbrev receipt : Receipted
-receipt = record { }
+receipt = record {}
 
 abbrev pub receipted : Lock → Seat → Lock
 receipted k s = with-receipts k (set (k .receipts) (s .0) (Some receipt))

@@ -5,7 +5,9 @@ ghost use lib.ListN.{length};
 ghost use Rattle.locks.specs.Rules as Rules;
 use crate::lock::Lock;
 use crate::lock::Standing;
+use ballots::OutcomeBallot;
 use ballots::Receipted;
+use ballots::ReceiptedBallot;
 use ballots::entry;
 use ballots::put;
 use ballots::tally;
@@ -20,8 +22,6 @@ use terms::numbers::Seat;
 use terms::parties::Outcome;
 use terms::refusals::RuleCause;
 use terms::sizes::Sizes;
-use ballots::ReceiptedBallot;
-use ballots::OutcomeBallot;
 
 impl Standing {
     fn rank(self) -> u8
@@ -74,7 +74,12 @@ impl Lock {
     }
 
     // A controller has the lock on its list; a quorum of them enrols it.
-    pub(crate) fn take_receipt(&mut self, sizes: Sizes, seat: Seat, place: Place) -> Result<Option<Body<Certificate, Basis>>, RuleCause>
+    pub(crate) fn take_receipt(
+        &mut self,
+        sizes: Sizes,
+        seat: Seat,
+        place: Place,
+    ) -> Result<Option<Body<Certificate, Basis>>, RuleCause>
         ensures answer { λ r. ⌜ r ≡ Rules.sends (Rules.receiptRule sizes (now (self .entry)) seat place) ⌝ }
         ensures lock { λ _. ⌜ now (self .exit) ≡ Rules.lockAfter (now (self .entry)) (Rules.receiptRule sizes (now (self .entry)) seat place) ⌝ }
     {
@@ -145,7 +150,12 @@ impl Lock {
         }))
     }
 
-    fn may_result(&self, staged: Option<KeyNumber>, seat: Seat, outcome: Outcome) -> Result<(), RuleCause>
+    fn may_result(
+        &self,
+        staged: Option<KeyNumber>,
+        seat: Seat,
+        outcome: Outcome,
+    ) -> Result<(), RuleCause>
         ensures { λ r. ⌜ r ≡ Rules.mayResultWith (now (self .entry)) staged seat outcome ⌝ }
     {
         if self.standing.rank() < 2 {
