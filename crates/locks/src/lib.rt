@@ -1,3 +1,4 @@
 // A lock and the office, by their rules.
 pub mod lock;
 mod rules;
+mod sending;

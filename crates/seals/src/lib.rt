@@ -4,3 +4,4 @@ mod guard;
 pub mod opening;
 mod rows;
 pub mod sealing;
+pub mod clearing;

@@ -5,10 +5,12 @@ ghost use Prim.Native.Nat.{ℕ, _+_, _<_, _≤_};
 ghost use lib.ListN.{length};
 ghost use Rattle.std.specs.Results.{isOk};
 ghost use Rattle.letters.specs.Bodies.{letter};
+ghost use Rattle.letters.specs.Bytes.{written};
 ghost use Rattle.letters.specs.Layout.{layout};
+ghost use Rattle.letters.specs.Sorts.{seal};
 ghost use Rattle.terms.specs.Refusals as Refusals;
 ghost use Rattle.seals.specs.Opening.{accepted, senderBorne};
-ghost use Rattle.seals.specs.Scratch.{roomy, scratchAfter};
+ghost use Rattle.seals.specs.Scratch.{roomy, cleared, scratchAfter};
 ghost use Rattle.seals.specs.Sealing.{sealIn, sealAnswer, sealOf, sendAnswer, sendBuffer, sendScratch};
 use crate::accepting::sender_borne;
 use crate::guard::over;
@@ -41,6 +43,22 @@ fn no_room() -> Refusal
     }
 }
 
+// The sender's seal on what the letter says.
+fn sender_seal<S: Scheme>(
+    scheme: &S,
+    change: Change,
+    body: &Body<Certificate, Basis>,
+    scratch: &mut [u8],
+) -> Seal
+    requires { ⌜ 24 ≤ length (now scratch) ⌝ }
+    ensures sealed { λ r. ⌜ accepted (S·Scheme .holds (now (scheme .entry))) (senderBorne change (now (body .entry)) r) ≡ true ⌝ }
+    ensures scratch_cleared { λ _. ⌜ now (scratch .exit) ≡ cleared (now (scratch .entry)) ⌝ }
+{
+    let mut guard = over(scratch);
+    let unsealed = sender_borne(change, body, Seal(0));
+    guard.seal(scheme, unsealed.party, unsealed.statement)
+}
+
 // The letter under its sender's seal.
 pub fn seal_letter<S: Scheme>(
     scheme: &S,
@@ -55,10 +73,33 @@ pub fn seal_letter<S: Scheme>(
     if scratch.len() < 24 {
         return Err(no_room());
     }
-    let mut guard = over(scratch);
-    let unsealed = sender_borne(change, &body, Seal(0));
-    let seal = guard.seal(scheme, unsealed.party, unsealed.statement);
+    let seal = sender_seal(scheme, change, &body, scratch);
     Ok(Letter { change, body, seal })
+}
+
+// Seals the letter and writes it, where both buffers have room. Under another
+// seal it is as long.
+fn seal_into<S: Scheme>(
+    scheme: &S,
+    change: Change,
+    body: &Body<Certificate, Basis>,
+    scratch: &mut [u8],
+    out: &mut [u8],
+) -> Seal
+    requires { ⌜ 24 ≤ length (now scratch) ⌝ ∗ ⌜ length (layout (letter change (now body) (seal 0))) ≤ length (now out) ⌝ }
+    ensures as_long { λ r. ⌜ length (layout (letter change (now (body .entry)) r)) ≡ length (layout (letter change (now (body .entry)) (seal 0))) ⌝ }
+    ensures sealed { λ r. ⌜ accepted (S·Scheme .holds (now (scheme .entry))) (senderBorne change (now (body .entry)) r) ≡ true ⌝ }
+    ensures output { λ r. ⌜ now (out .exit) ≡ written (layout (letter change (now (body .entry)) r)) (now (out .entry)) ⌝ }
+    ensures scratch_cleared { λ _. ⌜ now (scratch .exit) ≡ cleared (now (scratch .entry)) ⌝ }
+{
+    let seal = sender_seal(scheme, change, body, scratch);
+    let letter = Letter {
+        change,
+        body: *body,
+        seal,
+    };
+    let _ = write(&letter, out);
+    seal
 }
 
 // Seals the letter and writes it over the start of the output buffer. Where a
@@ -75,21 +116,18 @@ pub fn send<S: Scheme>(
     ensures output { λ r. ⌜ now (out .exit) ≡ sendBuffer (letter change body (sealOf r)) (now (scratch .entry)) (now (out .entry)) ⌝ }
     ensures scratch_cleared { λ r. ⌜ now (scratch .exit) ≡ sendScratch (letter change body (sealOf r)) (now (scratch .entry)) (now (out .entry)) ⌝ }
 {
+    if scratch.len() < 24 {
+        return Err(no_room());
+    }
     let unsealed = Letter {
         change,
         body,
         seal: Seal(0),
     };
-    if scratch.len() < 24 {
+    let length = length_of(&unsealed);
+    if out.len() < length {
         return Err(no_room());
     }
-    if out.len() < length_of(&unsealed) {
-        return Err(no_room());
-    }
-    let letter = seal_letter(scheme, change, body, scratch)?;
-    let length = write(&letter, out)?;
-    Ok(Sent {
-        length,
-        seal: letter.seal,
-    })
+    let seal = seal_into(scheme, change, &body, scratch, out);
+    Ok(Sent { length, seal })
 }
