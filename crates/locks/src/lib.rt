@@ -2,3 +2,5 @@
 pub mod lock;
 mod rules;
 mod sending;
+mod calls;
+mod letters_in;
