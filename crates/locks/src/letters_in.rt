@@ -68,4 +68,52 @@ impl Lock {
             _ => Err(RuleCause::OtherUnit),
         }
     }
+
+    // 7 for a letter of another change, before its kind is looked at.
+    fn take_letter<B: Board>(
+        &mut self,
+        sizes: Sizes,
+        change: Change,
+        board: &mut B,
+        letter: Letter<Part, Grounds>,
+    ) -> Result<Option<Body<Certificate, Basis>>, RuleCause>
+        ensures answer { λ r. ⌜ r ≡ Rules.sends (Letters.letterRule sizes change (now (self .entry)) (B·Board .meaning (now (board .entry))) (letter .entry)) ⌝ }
+        ensures lock { λ _. ⌜ now (self .exit) ≡ Rules.lockAfter (now (self .entry)) (Letters.letterRule sizes change (now (self .entry)) (B·Board .meaning (now (board .entry))) (letter .entry)) ⌝ }
+        ensures board { λ _. ⌜ B·Board .meaning (now (board .exit)) ≡ Rules.boardAfter (B·Board .meaning (now (board .entry))) (now (self .entry) .place) (Letters.letterRule sizes change (now (self .entry)) (B·Board .meaning (now (board .entry))) (letter .entry)) ⌝ }
+    {
+        if letter.change.number() != change.number() {
+            return Err(RuleCause::OtherChange);
+        }
+        self.take_body(sizes, board, letter.body)
+    }
+
+    // Serves a letter that was opened, or refuses it.
+    fn serve<S: Scheme, B: Board>(
+        &mut self,
+        sizes: Sizes,
+        change: Change,
+        scheme: &S,
+        board: &mut B,
+        letter: Letter<Part, Grounds>,
+        scratch: &mut [u8],
+        out: &mut [u8],
+    ) -> Result<Option<usize>, Refusal>
+        ensures call { λ r. ⌜ Calls.Goes (S·Scheme .holds (now (scheme .entry))) change (partyNumber (senderOf (letter .entry .body))) (now (self .entry)) (now (out .entry)) (now (scratch .entry)) (Letters.letterRule sizes change (now (self .entry)) (B·Board .meaning (now (board .entry))) (letter .entry)) (Calls.went r (now (self .exit)) (now (out .exit)) (now (scratch .exit))) ⌝ }
+        ensures board { λ _. ⌜ B·Board .meaning (now (board .exit)) ≡ Calls.boardCalled (B·Board .meaning (now (board .entry))) (now (self .entry) .place) (now (out .entry)) (now (scratch .entry)) (Letters.letterRule sizes change (now (self .entry)) (B·Board .meaning (now (board .entry))) (letter .entry)) ⌝ }
+    {
+        if out.len() < 256 {
+            return Err(no_room());
+        }
+        if scratch.len() < 24 {
+            return Err(no_room());
+        }
+        let sender = sender_of(letter.body).number() as usize;
+        match self.take_letter(sizes, change, board, letter) {
+            Ok(body) => Ok(deliver(scheme, change, body, scratch, out)),
+            Err(cause) => {
+                clear(scratch);
+                Err(ruled(cause, sender))
+            }
+        }
+    }
 }
