@@ -65,3 +65,8 @@ module _ (holds : Relation) (t : Change) (place : ℕ) (k : Lock) (out scratch :
 
 pub board-roomed : (m m′ : Meaning) (p : Place) (out scratch : List ℕ) (r : Reply) → 256 ≤ length out → 24 ≤ length scratch → m′ ≡ boardAfter m p r → m′ ≡ boardCalled m p out scratch r
 board-roomed m m′ p out scratch r a s e = e ∙ sym (ap (λ x. cond x (boardAfter m p r) m) (room out scratch a s))
+
+-- the same call, by an equal rule and for an equal party
+pub goes-along : {holds : Relation} {t : Change} {place place′ : ℕ} {k : Lock} {out scratch : List ℕ} {r r′ : Reply} {w : Went} → place ≡ place′ → r ≡ r′ → Goes holds t place k out scratch r w → Goes holds t place′ k out scratch r′ w
+goes-along {holds} {t} {place} {place′} {k} {out} {scratch} {r} {r′} {w} p e g =
+    subst (λ n. Goes holds t n k out scratch r′ w) p (subst (λ x. Goes holds t place k out scratch x w) e g)

@@ -88,7 +88,7 @@ impl Lock {
     }
 
     // Serves a letter that was opened, or refuses it.
-    fn serve<S: Scheme, B: Board>(
+    pub(crate) fn serve<S: Scheme, B: Board>(
         &mut self,
         sizes: Sizes,
         change: Change,

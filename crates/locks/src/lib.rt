@@ -1,6 +1,7 @@
 // A lock and the office, by their rules.
-pub mod lock;
-mod rules;
-mod sending;
 mod calls;
 mod letters_in;
+pub mod lock;
+mod receiving;
+mod rules;
+mod sending;

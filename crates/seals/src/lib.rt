@@ -1,7 +1,7 @@
 // Seals on letters: the scratch guard, opening and sealing.
 mod accepting;
+pub mod clearing;
 mod guard;
 pub mod opening;
 mod rows;
 pub mod sealing;
-pub mod clearing;
