@@ -1,5 +1,28 @@
-use std::io;
+// Gives all the doors of a board one new number, tells an installer of each step, and
+// spells out the letters that begin a change.
+mod change;
+mod doors;
+mod runs;
+mod spelled;
 
-fn main(rt: LibcRuntime) -> io::Result<()> {
-    println!(rt, "stub")
+use std::error::AnyError;
+
+fn run(rt: &impl Print) -> Result<(), AnyError> {
+    runs::keypad_goes_through(rt)?;
+    rt.println("")?;
+    runs::keypad_refuses(rt)?;
+    rt.println("")?;
+    runs::one_place_refuses(rt)?;
+    rt.println("")?;
+    runs::wheels_go_through(rt)?;
+    rt.println("")?;
+    runs::wheels_refuse(rt)?;
+    rt.println("")?;
+    spelled::enrolment(rt)?;
+    rt.println("")?;
+    spelled::order(rt)
+}
+
+fn main(rt: LibcRuntime) -> Result<(), AnyError> {
+    rt.report(run(&rt))
 }

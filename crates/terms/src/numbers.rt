@@ -32,7 +32,8 @@ impl Seat {
     pub fn number(self) -> u8
         ensures { λ r. ⌜ r ≡ self .0 ⌝ }
     {
-        self.0
+        let Seat(number) = self;
+        number
     }
 }
 
@@ -46,7 +47,8 @@ impl Place {
     pub fn number(self) -> u8
         ensures { λ r. ⌜ r ≡ self .0 ⌝ }
     {
-        self.0
+        let Place(number) = self;
+        number
     }
 }
 
@@ -60,7 +62,8 @@ impl View {
     pub fn number(self) -> u8
         ensures { λ r. ⌜ r ≡ self .0 ⌝ }
     {
-        self.0
+        let View(number) = self;
+        number
     }
 }
 
@@ -78,7 +81,8 @@ impl Change {
     pub fn number(self) -> u32
         ensures { λ r. ⌜ r ≡ self .0 ⌝ }
     {
-        self.0
+        let Change(number) = self;
+        number
     }
 }
 
@@ -96,6 +100,7 @@ impl KeyNumber {
     pub fn value(self) -> u32
         ensures { λ r. ⌜ r ≡ self .0 ⌝ }
     {
-        self.0
+        let KeyNumber(value) = self;
+        value
     }
 }
