@@ -93,11 +93,8 @@ pub impl Ballot for Pair as PairBallot {
 pub fn entry<T: Copy + Drop>(rows: &[Option<T>], at: u8) -> Option<T>
     ensures { λ r. ⌜ r ≡ getD (now (rows .entry)) at None ⌝ }
 {
-    if (at as usize) < rows.len() {
-        rows[at as usize]
-    } else {
-        None
-    }
+    let at = at as usize;
+    if at < rows.len() { rows[at] } else { None }
 }
 
 // Puts an entry into its row; past the last row nothing changes.
