@@ -22,7 +22,7 @@ fn byte_at(bytes: &[u8], at: usize) -> u8
 }
 
 // Word 0, and word p + 1 times (byte p + 1) for each of 24 bytes, modulo 2^64.
-fn sheet_sum(words: &[u64], bytes: &[u8]) -> u64
+pub fn sheet_sum(words: &[u64], bytes: &[u8]) -> u64
     requires { ⌜ length (now words) ≡ 25 ⌝ }
     ensures { λ r. ⌜ r ≡ sheetSum (now (words .entry)) (now (bytes .entry)) ⌝ }
 {
