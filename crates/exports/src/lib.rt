@@ -2,7 +2,7 @@
 ghost use mathlib.Core.Path.{_≡_};
 ghost use Rattle.letters.specs.Certificates.{digestOf};
 ghost use Rattle.schemes.specs.Sip.{sipHash};
-ghost use Rattle.exports.specs.Exports.{sheetOver};
+ghost use Rattle.schemes.specs.Sheet.{sheetSum};
 use letters::digests::digest_of;
 use schemes::sheet_seals::sheet_sum;
 use schemes::sip::sip_hash;
@@ -23,13 +23,10 @@ pub extern "C" fn keychange_digest(bytes: &[u8]) -> u64
     digest_of(bytes).0
 }
 
-// The seal of a sheet on a statement. A sheet has 25 words; of another number it is 0.
+// The seal of a sheet on a statement; a word that is not there counts as 0.
 #[unsafe(no_mangle)]
 pub extern "C" fn keychange_sheet_seal(sheet: &[u64], statement: &[u8]) -> u64
-    ensures { λ r. ⌜ r ≡ sheetOver (now (sheet .entry)) (now (statement .entry)) ⌝ }
+    ensures { λ r. ⌜ r ≡ sheetSum (now (sheet .entry)) (now (statement .entry)) ⌝ }
 {
-    if sheet.len() != 25 {
-        return 0;
-    }
     sheet_sum(sheet, statement)
 }

@@ -21,14 +21,20 @@ fn byte_at(bytes: &[u8], at: usize) -> u8
     if at < bytes.len() { bytes[at] } else { 0 }
 }
 
-// Word 0, and word p + 1 times (byte p + 1) for each of 24 bytes, modulo 2^64.
+fn word_of(words: &[u64], at: usize) -> u64
+    ensures { λ r. ⌜ r ≡ getD (now (words .entry)) at 0 ⌝ }
+{
+    if at < words.len() { words[at] } else { 0 }
+}
+
+// Word 0, and word p + 1 times (byte p + 1) for each of 24 bytes, modulo 2^64; a word that
+// is not there counts as 0.
 pub fn sheet_sum(words: &[u64], bytes: &[u8]) -> u64
-    requires { ⌜ length (now words) ≡ 25 ⌝ }
     ensures { λ r. ⌜ r ≡ sheetSum (now (words .entry)) (now (bytes .entry)) ⌝ }
 {
-    let mut sum = words[0];
+    let mut sum = word_of(words, 0);
     for p in 0..24 {
-        sum = sum.wrapping_add(words[p + 1].wrapping_mul(byte_at(bytes, p) as u64 + 1));
+        sum = sum.wrapping_add(word_of(words, p + 1).wrapping_mul(byte_at(bytes, p) as u64 + 1));
     }
     sum
 }
