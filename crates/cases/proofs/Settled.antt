@@ -8,6 +8,9 @@ use Rattle.boards.specs.Keypads.{keypadMeaning}
 use Rattle.boards.specs.Wheels.{turnOf}
 use Rattle.boards.specs.WheelBoards.{wheelMeaning}
 use Rattle.letters.specs.Certificates.{allReady, someEnrolled}
+use Rattle.letters.specs.Bytes.{le4, le8}
+use Rattle.letters.specs.Statements.{statementBytes}
+use Rattle.schemes.specs.Sheet.{weighted}
 use Rattle.cases.specs.Cases.{Worked-cases}
 
 and-no : (b : Bool) → b && false ≡ false
@@ -15,7 +18,7 @@ and-no true = refl
 and-no false = refl
 
 pub worked-cases : Worked-cases
-unfolding turnOf allReady someEnrolled
+unfolding turnOf allReady someEnrolled le4 le8 statementBytes weighted
 worked-cases =
     record {
       seat-2-leads-view-9 = λ sizes t e. ap (λ f. seat (9 % (3 * f + 1))) e;
@@ -29,4 +32,6 @@ worked-cases =
       first-refuses = λ z d e u v. refl;
       second-refuses = λ z d e u v. refl;
       nobody-enrolled = λ z vs. refl;
+      enrolment-of-lock-2 = refl;
+      order-of-123456 = refl;
     }

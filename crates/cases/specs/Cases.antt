@@ -2,14 +2,16 @@
 use mathlib.Core.Path.{_≡_}
 use mathlib.Core.Bool.{true, false}
 use mathlib.Core.List.{List, [], _∷_}
+use Prim.Native.Nat.{ℕ}
 use lib.IntN.{pos, negsuc}
+use lib.ListN.{replicate}
 use Rattle.std.specs.declared.option.Option.{Option}
 use Rattle.std.specs.declared.option.Option.the-variants.{Some, None}
 use Rattle.terms.specs.declared.numbers.Change.{Change}
 use Rattle.terms.specs.declared.numbers.Place.{Place}
 use Rattle.terms.specs.declared.sizes.Sizes.{Sizes}
 use Rattle.terms.specs.declared.parties.Outcome.the-variants.{Keep, Number}
-use Rattle.terms.specs.Numbers.{seat, viewOf, key}
+use Rattle.terms.specs.Numbers.{seat, place, change, viewOf, key}
 use Rattle.terms.specs.Parties.{leaderOf}
 use Rattle.boards.specs.declared.keypad.Keypad.{Keypad}
 use Rattle.boards.specs.declared.wheel_board.WheelBoard.{WheelBoard}
@@ -22,7 +24,16 @@ use Rattle.letters.specs.declared.sorts.Answer.{Answer}
 use Rattle.letters.specs.declared.sorts.Answer.the-variants.{Ready, Refuse}
 use Rattle.letters.specs.declared.certificates.Vote.{Vote}
 use Rattle.letters.specs.declared.certificates.Certificate.{Certificate}
+use Rattle.letters.specs.declared.certificates.Basis.{Basis}
+use Rattle.letters.specs.declared.bodies.Letter.{Letter}
+use Rattle.letters.specs.declared.bodies.Body.{Body}
+use Rattle.letters.specs.declared.bodies.Body.the-variants.{Enrol, Order}
+use Rattle.letters.specs.Bodies.{inBrief, letter}
 use Rattle.letters.specs.Certificates.{resultOf}
+use Rattle.letters.specs.Layout.{layout}
+use Rattle.letters.specs.Statements.{statementBytes, statementOf}
+use Rattle.schemes.specs.Kinds.{sheetSeal}
+use Rattle.seals.specs.Opening.{senderOf}
 
 -- a row for each of eight places: these at places 0 and 1, and nothing at the others
 abbrev pub rows : {A : Type 0} → Option A → Option A → List (Option A)
@@ -38,6 +49,14 @@ under5020 z es vs = record { order = record { number = Some (key 5020); seal = z
 -- the same, with places 0 and 1 enrolled and these answers of theirs, under whatever seals
 abbrev pub answered : Seal → Seal → Seal → Seal → Seal → Answer → Answer → Certificate
 answered z d e u v a b = under5020 z (rows (Some d) (Some e)) (rows (vote a u) (vote b v))
+
+-- a sheet of ones for every party
+abbrev pub ones : List (List ℕ)
+ones = replicate 25 (replicate 25 1)
+
+-- a letter of change 7, with the sender's seal under the sheets of ones
+abbrev pub sealedByOnes : Body Certificate Basis → Letter Certificate Basis
+sealedByOnes b = letter (change 7) b (sheetSeal ones (senderOf b) (statementBytes (statementOf (change 7) (inBrief b))))
 
 pub record Worked-cases : Type 0 where
   -- among seven controllers seat 2 leads view 9 of every change
@@ -57,3 +76,6 @@ pub record Worked-cases : Type 0 where
   pub second-refuses : (z d e u v : Seal) → resultOf (answered z d e u v Ready Refuse) ≡ Keep
   -- keep if nobody is enrolled, whatever votes there are
   pub nobody-enrolled : (z : Seal) (vs : List (Option Vote)) → resultOf (under5020 z (rows None None) vs) ≡ Keep
+  -- under sheets of ones, lock 2 enrols in change 7 so, and the office orders 123,456 so
+  pub enrolment-of-lock-2 : layout (sealedByOnes (Enrol (place 2))) ≡ 0x07 ∷ 0x10 ∷ 0x01 ∷ 0x07 ∷ 0x22 ∷ 0x43 ∷ 0 ∷ 0 ∷ 0 ∷ 0 ∷ 0 ∷ 0 ∷ 0 ∷ []
+  pub order-of-123456 : layout (sealedByOnes (Order (Some (key 123456)))) ≡ 0x27 ∷ 0x10 ∷ 0x03 ∷ 0x07 ∷ 0x40 ∷ 0x40 ∷ 0xE2 ∷ 0x01 ∷ 0x00 ∷ 0x87 ∷ 0x01 ∷ 0 ∷ 0 ∷ 0 ∷ 0 ∷ 0 ∷ 0 ∷ []
