@@ -42,6 +42,7 @@ use Rattle.controllers.specs.declared.controller.MoveRecord.{MoveRecord}
 use Rattle.controllers.specs.declared.controller.Proposal.{Proposal}
 use Rattle.controllers.specs.declared.controller.Round.{Round}
 use Rattle.controllers.specs.declared.rules.Bodies.{Bodies}
+use Rattle.controllers.specs.declared.rules.Bodies.the-variants.{Nothing, One, Two}
 use Rattle.controllers.specs.Choice.{sameView, names, best, allRecorded, covers, picked}
 
 -- refused, and nothing changes; or served: the controller, and what it sends
@@ -68,16 +69,6 @@ given (Some a) c rest = rest a
 abbrev pub passing : Result (Unit {0}) RuleCause → Reply → Reply
 passing (Err c) rest = refused c
 passing (Ok x) rest = rest
-
--- what is sent: nothing, one letter, or two
-abbrev pub silent : Bodies
-silent = record { first = None; second = None }
-
-abbrev pub one : Body Certificate Basis → Bodies
-one b = record { first = Some b; second = None }
-
-abbrev pub two : Body Certificate Basis → Body Certificate Basis → Bodies
-two b c = record { first = Some b; second = Some c }
 
 -- ---- the controller with a field replaced
 
@@ -110,7 +101,7 @@ mayEnrol u p =
     (refuse-if (isSome (getD (u .registered) (p .0) None)) R.Repeated (Ok tt))
 
 abbrev pub enrolRule : Controller → Place → Seal → Reply
-enrolRule u p z = passing (mayEnrol u p) (served (with-registered u (set (u .registered) (p .0) (Some z))) (one (B.Receipt (u .seat) p)))
+enrolRule u p z = passing (mayEnrol u p) (served (with-registered u (set (u .registered) (p .0) (Some z))) (One (B.Receipt (u .seat) p)))
 
 -- ---- order: 10 the same one is held; 12 another is held; it is held, and a summons is sent if it has a number
 
@@ -128,8 +119,8 @@ abbrev pub order : Option KeyNumber → Seal → Order
 order n z = record { number = n; seal = z }
 
 abbrev pub summons : Seat → Option KeyNumber → Seal → Bodies
-summons s None z = silent
-summons s (Some n) z = one (B.Summons s n z)
+summons s None z = Nothing
+summons s (Some n) z = One (B.Summons s n z)
 
 abbrev pub orderRule : Controller → Option KeyNumber → Seal → Reply
 orderRule u n z = passing (mayOrder (u .order) n) (served (with-order u (Some (order n z))) (summons (u .seat) n z))
@@ -148,7 +139,7 @@ mayVote u p n =
     (refuse-if (isSome (getD (u .votes) (p .0) None)) R.Repeated (Ok tt))))
 
 abbrev pub voteRule : Controller → Place → KeyNumber → Answer → Seal → Reply
-voteRule u p n a z = passing (mayVote u p n) (served (with-votes u (set (u .votes) (p .0) (Some (record { answer = a; seal = z })))) silent)
+voteRule u p n a z = passing (mayVote u p n) (served (with-votes u (set (u .votes) (p .0) (Some (record { answer = a; seal = z })))) Nothing)
 
 -- ---- the choice, and holding a proposal
 
@@ -212,7 +203,7 @@ held u p own = with-round (hold u p) (assented (hold u p .round) (u .seat) (pair
 abbrev pub proposalRule : Sizes → Change → Controller → View → Outcome → Certificate → SeatSet → Seal → Seal → Reply
 proposalRule sizes t u v x c m z own =
     passing (mayHold sizes t u v x c (certificateDigest c) m)
-    (served (held u (proposal x c (certificateDigest c) z) own) (one (B.Assent (u .seat) (u .view) x (certificateDigest c))))
+    (served (held u (proposal x c (certificateDigest c) z) own) (One (B.Assent (u .seat) (u .view) x (certificateDigest c))))
 
 -- ---- taking the result
 
@@ -251,13 +242,13 @@ abbrev pub resultBody : Controller → Pair → Body Certificate Basis
 resultBody u x = B.Result (u .seat) (x .outcome)
 
 unfoldable pub confirming : Sizes → Controller → Pair → Option Proposal → Reply
-confirming sizes u x None = served u silent
+confirming sizes u x None = served u Nothing
 confirming sizes u x (Some p) =
     served (concluded sizes (confirmedOwn u p x) x)
-    (cond (concludes sizes (confirmedOwn u p x) x) (two (confirmBody u x) (resultBody u x)) (one (confirmBody u x)))
+    (cond (concludes sizes (confirmedOwn u p x) x) (Two (confirmBody u x) (resultBody u x)) (One (confirmBody u x)))
 
 abbrev pub assentCounted : Sizes → Controller → Pair → Reply
-assentCounted sizes u x = cond (leb (2 * sizes .faults) (countAgree samePair x (u .round .assents))) (confirming sizes u x (u .round .proposal)) (served u silent)
+assentCounted sizes u x = cond (leb (2 * sizes .faults) (countAgree samePair x (u .round .assents))) (confirming sizes u x (u .round .proposal)) (served u Nothing)
 
 abbrev pub assentRule : Sizes → Controller → Seat → View → Pair → Seal → Reply
 assentRule sizes u s v x z = passing (mayAssent sizes u s v x) (assentCounted sizes (with-round u (assented (u .round) s x z)) x)
@@ -272,7 +263,7 @@ mayConfirm u s v x =
     (refuse-if (isSome (getD (u .round .confirms) (s .0) None)) R.Repeated (Ok tt))))
 
 abbrev pub confirmCounted : Sizes → Controller → Pair → Reply
-confirmCounted sizes u x = served (concluded sizes u x) (cond (concludes sizes u x) (one (resultBody u x)) silent)
+confirmCounted sizes u x = served (concluded sizes u x) (cond (concludes sizes u x) (One (resultBody u x)) Nothing)
 
 abbrev pub confirmRule : Sizes → Controller → Seat → View → Pair → Reply
 confirmRule sizes u s v x = passing (mayConfirm u s v x) (confirmCounted sizes (with-round u (confirmed (u .round) s x)) x)
@@ -289,7 +280,7 @@ abbrev pub entered : Controller → View → Controller
 entered u v = record { seat = u .seat; view = v; registered = u .registered; order = u .order; votes = u .votes; round = emptyRound; basis = u .basis; records = set (u .records) (u .seat .0) (Some (moveRecord v (u .basis))); result = u .result }
 
 abbrev pub enterView : Controller → View → Reply
-enterView u v = served (entered u v) (one (B.Move (u .seat) v (u .basis)))
+enterView u v = served (entered u v) (One (B.Move (u .seat) v (u .basis)))
 
 -- ---- move: 11 below the own view; 9 the own view, and a proposal is held; 10 the seat's record names this view or a later one; 13 the
 -- certificate has another result; the seat's record is replaced; if the view is above the own and f + 1 records name it, it is entered
@@ -313,7 +304,7 @@ abbrev pub recordCount : Controller → View → ℕ
 recordCount u v = countAgree sameView (moveRecord v None) (u .records)
 
 abbrev pub moveCounted : Sizes → Controller → View → Reply
-moveCounted sizes u v = cond (ltb (u .view .0) (v .0) && leb (sizes .faults + 1) (recordCount u v)) (enterView u v) (served u silent)
+moveCounted sizes u v = cond (ltb (u .view .0) (v .0) && leb (sizes .faults + 1) (recordCount u v)) (enterView u v) (served u Nothing)
 
 abbrev pub moveRule : Sizes → Controller → Seat → View → Option Basis → Reply
 moveRule sizes u s v b = passing (mayMove u s v b) (moveCounted sizes (with-records u (set (u .records) (s .0) (Some (moveRecord v b)))) v)
@@ -367,7 +358,7 @@ mayPropose sizes t u =
 abbrev pub proposed : Controller → Draft → Seal → Reply
 proposed u d own =
     served (hold u (proposal (d .outcome) (d .certificate) (certificateDigest (d .certificate)) own))
-    (one (B.Proposal (u .seat) (u .view) (d .outcome) (d .certificate) (d .movers)))
+    (One (B.Proposal (u .seat) (u .view) (d .outcome) (d .certificate) (d .movers)))
 
 abbrev pub proposing : Controller → Result Draft RuleCause → Seal → Reply
 proposing u (Err c) own = refused c

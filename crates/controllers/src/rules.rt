@@ -35,27 +35,10 @@ use writing::certificates::certificate_digest;
 
 // What is to be sent: nothing, one letter, or two.
 #[derive(Clone, Copy)]
-pub struct Bodies {
-    pub(crate) first: Option<Body<Certificate, Basis>>,
-    pub(crate) second: Option<Body<Certificate, Basis>>,
-}
-
-pub(crate) fn silent() -> Bodies
-    ensures { λ r. ⌜ r ≡ Rules.silent ⌝ }
-{
-    Bodies {
-        first: None,
-        second: None,
-    }
-}
-
-pub(crate) fn one(body: Body<Certificate, Basis>) -> Bodies
-    ensures { λ r. ⌜ r ≡ Rules.one body ⌝ }
-{
-    Bodies {
-        first: Some(body),
-        second: None,
-    }
+pub enum Bodies {
+    Nothing,
+    One(Body<Certificate, Basis>),
+    Two(Body<Certificate, Basis>, Body<Certificate, Basis>),
 }
 
 fn same_number(a: Option<KeyNumber>, b: Option<KeyNumber>) -> bool
@@ -84,8 +67,8 @@ fn summons(sender: Seat, number: Option<KeyNumber>, office_seal: Seal) -> Bodies
     ensures { λ r. ⌜ r ≡ Rules.summons sender number «office_seal» ⌝ }
 {
     match number {
-        None => silent(),
-        Some(number) => one(Body::Summons {
+        None => Bodies::Nothing,
+        Some(number) => Bodies::One(Body::Summons {
             sender,
             number,
             office_seal,
@@ -122,7 +105,7 @@ impl Controller {
     {
         self.may_enrol(place)?;
         put(&mut self.registered, place.number(), Some(seal));
-        Ok(one(Body::Receipt {
+        Ok(Bodies::One(Body::Receipt {
             sender: self.seat,
             place,
         }))
@@ -173,6 +156,6 @@ impl Controller {
     {
         self.may_vote(place, number)?;
         put(&mut self.votes, place.number(), Some(Vote { answer, seal }));
-        Ok(silent())
+        Ok(Bodies::Nothing)
     }
 }

@@ -15,8 +15,6 @@ use crate::counts::choose;
 use crate::counts::covers;
 use crate::counts::pick;
 use crate::rules::Bodies;
-use crate::rules::one;
-use crate::rules::silent;
 use ballots::OutcomeBallot;
 use ballots::Pair;
 use ballots::PairBallot;
@@ -285,18 +283,15 @@ impl Controller {
         ensures unit { λ _. ⌜ now (self .exit) ≡ Rules.after (now (self .entry)) (Rules.confirming sizes (now (self .entry)) pair (now (self .entry) .round .proposal)) ⌝ }
     {
         let Some(held) = self.round.proposal else {
-            return silent();
+            return Bodies::Nothing;
         };
         let confirm = self.confirm_body(pair);
         let result = self.result_body(pair);
         self.confirm_own(held, pair);
         if !self.conclude(sizes, pair) {
-            return one(confirm);
+            return Bodies::One(confirm);
         }
-        Bodies {
-            first: Some(confirm),
-            second: Some(result),
-        }
+        Bodies::Two(confirm, result)
     }
 
     // A controller assents to the held proposal.
@@ -314,7 +309,7 @@ impl Controller {
         self.may_assent(sizes, seat, view, pair)?;
         self.round.record_assent(seat, pair, seal);
         if tally(&self.round.assents, &pair) < 2 * sizes.faults() as usize {
-            return Ok(silent());
+            return Ok(Bodies::Nothing);
         }
         Ok(self.confirming(sizes, pair))
     }
@@ -356,9 +351,9 @@ impl Controller {
         self.round.record_confirm(seat, pair);
         let result = self.result_body(pair);
         if !self.conclude(sizes, pair) {
-            return Ok(silent());
+            return Ok(Bodies::Nothing);
         }
-        Ok(one(result))
+        Ok(Bodies::One(result))
     }
 
     // Enters a view: the round is forgotten, the own record stored with the own basis.
@@ -373,7 +368,7 @@ impl Controller {
         self.view = view;
         self.round = empty_round();
         put(&mut self.records, self.seat.number(), Some(record));
-        one(Body::Move {
+        Bodies::One(Body::Move {
             sender: self.seat,
             view,
             basis: self.basis,
@@ -426,7 +421,7 @@ impl Controller {
         {
             return Ok(self.enter_view(view));
         }
-        Ok(silent())
+        Ok(Bodies::Nothing)
     }
 
     // The view has lasted too long: the controller enters the next one.

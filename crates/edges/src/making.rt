@@ -9,6 +9,7 @@ use std::test::*;
 use terms::numbers::Change;
 use terms::numbers::KeyNumber;
 use terms::numbers::Place;
+use terms::numbers::Seat;
 use terms::numbers::View;
 use terms::refusals::Refusal;
 use terms::sizes::Sizes;
@@ -37,6 +38,7 @@ fn numbers_have_their_ranges() -> Result<(), Fail> {
         check(Change::new(n).is_some() == change)?;
         check(KeyNumber::new(n).is_some() == key)?;
     }
+    check(Seat::new(15).is_some() && Seat::new(16).is_none())?;
     check(View::new(0).number() == 0 && View::new(255).number() == 255)
 }
 
