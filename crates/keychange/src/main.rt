@@ -1,8 +1,10 @@
 // Gives all the doors of a board one new number, tells an installer of each step, and
-// spells out the letters that begin a change.
+// spells out the sealed letters that begin a change, whole and damaged.
 mod change;
 mod doors;
+mod refused;
 mod runs;
+mod sealed;
 mod spelled;
 
 use std::error::AnyError;
@@ -18,9 +20,7 @@ fn run(rt: &impl Print) -> Result<(), AnyError> {
     rt.println("")?;
     runs::wheels_refuse(rt)?;
     rt.println("")?;
-    spelled::enrolment(rt)?;
-    rt.println("")?;
-    spelled::order(rt)
+    sealed::letters(rt)
 }
 
 fn main(rt: LibcRuntime) -> Result<(), AnyError> {

@@ -1,5 +1,6 @@
 // Changes on a keypad board and on a wheel board, some that go through and some that do not.
 use crate::change::change_to;
+use crate::refused::or_sentence;
 use boards::board::Board;
 use boards::keypad::Keypad;
 use boards::keypad_calls::KeypadIsBoard;
@@ -10,20 +11,6 @@ use std::error::AnyError;
 use terms::numbers::KeyNumber;
 use terms::numbers::Place;
 
-fn keypad(numbers: &[u32]) -> Result<Keypad, AnyError> {
-    match Keypad::new(numbers) {
-        Ok(board) => Ok(board),
-        Err(refusal) => Err(refusal.cause.sentence().into()),
-    }
-}
-
-fn wheel_board(wheels: &[Wheels]) -> Result<WheelBoard, AnyError> {
-    match WheelBoard::new(wheels) {
-        Ok(board) => Ok(board),
-        Err(refusal) => Err(refusal.cause.sentence().into()),
-    }
-}
-
 fn key(number: u32) -> Result<KeyNumber, AnyError> {
     match KeyNumber::new(number) {
         Some(number) => Ok(number),
@@ -33,7 +20,7 @@ fn key(number: u32) -> Result<KeyNumber, AnyError> {
 
 pub fn keypad_goes_through(rt: &impl Print) -> Result<(), AnyError> {
     println!(rt, "A keypad board is to show 005020.")?;
-    let mut board = keypad(&[123, 999_999, 7])?;
+    let mut board = or_sentence(Keypad::new(&[123, 999_999, 7]))?;
     change_to(rt, &mut board, key(5_020)?)?;
     Ok(())
 }
@@ -43,7 +30,7 @@ pub fn keypad_refuses(rt: &impl Print) -> Result<(), AnyError> {
         rt,
         "A keypad board is to show 111111, one digit six times over."
     )?;
-    let mut board = keypad(&[123, 999_999, 7])?;
+    let mut board = or_sentence(Keypad::new(&[123, 999_999, 7]))?;
     change_to(rt, &mut board, key(111_111)?)?;
     Ok(())
 }
@@ -53,7 +40,7 @@ pub fn one_place_refuses(rt: &impl Print) -> Result<(), AnyError> {
         rt,
         "A keypad board with 004711 staged at place 1 is to show 005020."
     )?;
-    let mut board = keypad(&[123, 999_999, 7])?;
+    let mut board = or_sentence(Keypad::new(&[123, 999_999, 7]))?;
     if let Some(place) = Place::new(1) {
         board.stage(place, key(4_711)?);
     }
@@ -65,7 +52,7 @@ pub fn wheels_go_through(rt: &impl Print) -> Result<(), AnyError> {
     println!(rt, "A wheel board is to show 005020.")?;
     let first = Wheels { a: 0, b: 1, c: 23 };
     let second = Wheels { a: 99, b: 0, c: 70 };
-    let mut board = wheel_board(&[first, second])?;
+    let mut board = or_sentence(WheelBoard::new(&[first, second]))?;
     change_to(rt, &mut board, key(5_020)?)?;
     Ok(())
 }
@@ -75,7 +62,7 @@ pub fn wheels_refuse(rt: &impl Print) -> Result<(), AnyError> {
         rt,
         "A wheel board is to show 005019, whose last two digits are below 20."
     )?;
-    let mut board = wheel_board(&[Wheels { a: 0, b: 1, c: 23 }])?;
+    let mut board = or_sentence(WheelBoard::new(&[Wheels { a: 0, b: 1, c: 23 }]))?;
     change_to(rt, &mut board, key(5_019)?)?;
     Ok(())
 }
