@@ -1,4 +1,6 @@
 // What holds after every list of calls on a vault, each law held by the contract of a function.
+#![tactic(auto)]
+
 ghost use Rattle.agreement.specs.Law.{HonestLocksNeverPartLaw, HonestControllersHoldOneResult, SupportedNumbersStandLaw};
 
 // Two honest locks that have ended both kept, or both changed to the same number; and if one has

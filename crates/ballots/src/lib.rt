@@ -1,4 +1,6 @@
 // Ballots of seats: one count for every kind of ballot.
+#![tactic(auto)]
+
 ghost use Rattle.std.specs.Prelude.{◌≡◌, ℕ, ◌+◌, ◌<◌, ◌≤◌, Bool, true, length, None, nat_lt, slice_index_or, slice_set};
 ghost use Rattle.ballots.specs.Counts.{count_agree};
 ghost use Rattle.ballots.specs.Kinds.{always_agree, same_outcome, same_pair};

@@ -1,5 +1,7 @@
 // A row of doors, each with a number in force and perhaps a staged one: what
 // any such board does, and two boards that do it in their own ways.
+#![tactic(auto)]
+
 pub mod board;
 pub mod door;
 pub mod keypad;

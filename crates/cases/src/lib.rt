@@ -1,4 +1,6 @@
 // The worked cases, settled together.
+#![tactic(auto)]
+
 ghost use Rattle.std.specs.Prelude.{◌≡◌, true};
 ghost use Rattle.cases.specs.Cases.{WorkedCases};
 

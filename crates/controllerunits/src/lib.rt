@@ -1,4 +1,6 @@
 // A controller, by its rules.
+#![tactic(auto)]
+
 mod calls;
 pub mod controller;
 mod counts;

@@ -1,5 +1,7 @@
 // The edges of every constructor and of every call of the boards, and what the shared
 // vocabulary answers, run.
+#![tactic(auto)]
+
 #[cfg(test)]
 mod calls;
 #[cfg(test)]

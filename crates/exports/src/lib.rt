@@ -1,4 +1,6 @@
 // The hashes and the sheet seal under C names, for programs that are not written in Rattle.
+#![tactic(auto)]
+
 ghost use Rattle.std.specs.Prelude.{◌≡◌};
 ghost use Rattle.letters.specs.Certificates.{digest_of};
 ghost use Rattle.schemes.specs.Sip.{sip_hash};

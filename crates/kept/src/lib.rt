@@ -1,4 +1,6 @@
 // What a controller keeps of a letter's parts: the certificate or the basis in them.
+#![tactic(auto)]
+
 ghost use Rattle.std.specs.Prelude.{◌≡◌, ℕ, ◌+◌, ◌-◌, ◌*◌, ◌/◌, ◌%◌, ◌^◌, ◌<◌, ◌≤◌, List, length, count_ones, slice_index};
 ghost use Rattle.letters.specs.Bytes.{two_at, four_at, eight_at, row_at, after_row, rows_at};
 ghost use Rattle.kept.specs.Kept as Kept;

@@ -1,5 +1,6 @@
 // Gives all the doors of a board one new number, tells an installer of each step, and
 // spells out the sealed letters that begin a change, whole and damaged.
+#![tactic(auto)]
 
 mod change;
 mod doors;

@@ -1,4 +1,6 @@
 // Letters: what they hold, and the statements that their seals stand on.
+#![tactic(auto)]
+
 pub mod bodies;
 pub mod certificates;
 pub mod digests;

@@ -1,4 +1,6 @@
 // Holds what is read of each letter of a table to what the table expects.
+#![tactic(auto)]
+
 mod answers;
 mod lines;
 

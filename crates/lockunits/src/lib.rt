@@ -1,4 +1,6 @@
 // A lock, by its rules.
+#![tactic(auto)]
+
 mod calls;
 mod letters_in;
 pub mod lock;

@@ -1,4 +1,6 @@
 // The office, by its rule.
+#![tactic(auto)]
+
 ghost use Rattle.std.specs.Prelude.{◌≡◌, false};
 ghost use Rattle.office.specs.Rules as Rules;
 ghost use Rattle.posting.specs.Calls as Calls;

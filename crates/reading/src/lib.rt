@@ -1,4 +1,6 @@
 // Reading: from any bytes to a letter that borrows them, or a refusal.
+#![tactic(auto)]
+
 mod fields;
 mod form;
 pub mod parts;

@@ -1,4 +1,6 @@
 // Laws of the letters' bytes, each held by the contract of a function.
+#![tactic(auto)]
+
 ghost use Rattle.roundtrip.specs.Laws.{LettersAreReadBack, OneForm, WhatIsReadIsInRange, KeptCertificateHasTheSameBytes, KeptCertificateHasTheSameDigest, StatementsTell};
 
 // A letter within range is read back from its bytes.

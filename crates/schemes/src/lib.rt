@@ -1,4 +1,6 @@
 // Seal schemes: what a scheme is, and its two kinds.
+#![tactic(auto)]
+
 pub mod digest_seals;
 pub mod keys;
 pub mod scheme;

@@ -1,4 +1,6 @@
 // Seals on letters: the scratch guard, opening and sealing.
+#![tactic(auto)]
+
 mod accepting;
 pub mod clearing;
 mod guard;

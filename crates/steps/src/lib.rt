@@ -1,4 +1,6 @@
 // Laws of every step of a unit, each held by the contract of a function.
+#![tactic(auto)]
+
 ghost use Rattle.steps.specs.Laws.{SeatStays, ViewNeverFalls, ResultStays, OrderStays, RegisteredPlacesStay, RegisteredPlacesNeverGrow, BasisNeverFalls, ProposalStaysInItsView, OneVoiceAView, ConfirmOnlyInThePresentView, ResultSentWhenTaken, MoveOnlyToALaterView, ReceiptOnlyBeforeAnOrder, PlaceStays, StandingNeverFalls, EndedLockStays, OtherPlacesStay, OfficeOrdersOnce};
 ghost use Rattle.steps.specs.Voices.{AtMostOneVoiceAView};
 ghost use Rattle.steps.specs.RangeLaws.{NewControllersAreInRange, NewLocksAreInRange, ControllersStayInRange, ControllersSendInRange, OwnBasisIsNotLater, LocksStayInRange, LocksSendInRange, OfficeSendsInRange, LettersSentAreReadBack};

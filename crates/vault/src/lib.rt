@@ -1,4 +1,6 @@
 // A whole vault: the public calls over lent tables of units.
+#![tactic(auto)]
+
 mod calls;
 mod handing;
 mod public;

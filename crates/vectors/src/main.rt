@@ -1,4 +1,6 @@
 // Runs both hashes over the published vectors, and names each one on which they differ.
+#![tactic(auto)]
+
 use letters::digests::digest_of;
 use schemes::sip::sip_hash;
 use std::{fs, io};

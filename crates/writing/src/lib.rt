@@ -1,4 +1,6 @@
 // Letters, certificates and statements as bytes.
+#![tactic(auto)]
+
 mod bodies;
 pub mod briefs;
 pub mod certificates;
