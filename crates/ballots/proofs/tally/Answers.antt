@@ -3,7 +3,7 @@ use Rattle.std.proofs.lemmas.List.{take_all}
 use Rattle.std.proofs.lemmas.List.Sums.{count_by_more_yes, count_by_more_no}
 use Rattle.ballots.specs.Counts.{votes_for}
 use Rattle.ballots.proofs.tally.Goals as goal
-use Rattle.ballots.proofs.tally.Goals.{in-Some+then-agrees, in-Some+else-agrees, in-default}
+use Rattle.ballots.proofs.tally.Goals.{in-Some+then-agrees, in-Some+else-agrees, in_default}
 
 pub loop-slot-preserved : goal.loop-slot-preserved
 loop-slot-preserved g c =
@@ -17,8 +17,8 @@ loop-slot-preserved g c =
           let said = ap p (sym c.slot-item.is ∙ w.in-Some.is) ∙ sym w.agrees.ensures ∙ w.if-agrees.false in
           let e = count_by_more_no p _ _ _ c.loop-slot-test.true said in
           (omega arith, omega (arith, e))
-      | in-default w ↦
-          let said = ap p (sym c.slot-item.is ∙ w.in-default.is) in
+      | in_default w ↦
+          let said = ap p (sym c.slot-item.is ∙ w.in_default.is) in
           let e = count_by_more_no p _ _ _ c.loop-slot-test.true said in
           (omega arith, omega (arith, e))
     ]

@@ -6,11 +6,11 @@ use Rattle.kept.proofs.read_rows.Goals as goal
 pub loop-k-preserved : goal.loop-k-preserved
 loop-k-preserved c =
     let n = length c.args.rows.now in
-    let rest = rows_at (n - (c.loop-k.k + 1)) (c.loop-k.left / 2) c.args.bytes.now c.after-row-at.result in
-    let written = set_next c.loop-k.rows c.loop-k.k c.row-at.result rest (omega arith) in
+    let rest = rows_at (n - (c.loop-k.k + 1)) (c.loop-k.left / 2) c.args.bytes.now c.after_row-at.result in
+    let written = set_next c.loop-k.rows c.loop-k.k c.row_at.result rest (omega arith) in
     let more = rows_more n c.loop-k.k c.loop-k.left c.args.bytes.now c.loop-k.at (omega arith) in
-    let row = c.row-at.ensures in
-    let next = c.after-row-at.ensures.place in
+    let row = c.row_at.ensures in
+    let next = c.after_row-at.ensures.place in
     let before = c.loop-k.invariant.1 in
     (omega arith, (cc))
 

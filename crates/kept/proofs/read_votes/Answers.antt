@@ -6,9 +6,9 @@ use Rattle.kept.proofs.read_votes.Goals as goal
 pub loop-k-preserved : goal.loop-k-preserved
 loop-k-preserved c =
     let rest = votes_of (c.loop-k.left / 2) (drop (c.loop-k.k + 1) c.args.seals.now) in
-    let written = set_next c.loop-k.votes c.loop-k.k c.vote-of.result rest (omega arith) in
+    let written = set_next c.loop-k.votes c.loop-k.k c.vote_of.result rest (omega arith) in
     let more = votes_more c.loop-k.left c.loop-k.k c.args.seals.now (omega arith) in
-    let row = c.vote-of.ensures in
+    let row = c.vote_of.ensures in
     let before = c.loop-k.invariant in
     cc
 

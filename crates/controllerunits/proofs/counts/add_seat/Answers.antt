@@ -12,4 +12,4 @@ pub returns-then-picked-quorum : goal.returns-then-picked-quorum
 returns-then-picked-quorum c = record { value = search rules; map_bound = omega (arith, twice c.args.seat); count_bound = omega arith }
 
 pub returns : goal.returns
-returns c = record { value = search rules; map_bound = omega (arith, twice c.args.seat, c.bit-of.ensures); count_bound = omega arith }
+returns c = record { value = search rules; map_bound = omega (arith, twice c.args.seat, c.bit_of.ensures); count_bound = omega arith }

@@ -2,8 +2,8 @@ use Rattle.std.proofs.Common.{rules}
 use Rattle.letters.specs.Sorts.{seal}
 use Rattle.locks.proofs.sending.deliver.Goals as goal
 
-pub returns-in-default : goal.returns-in-default
-returns-in-default g c = record {
+pub returns-in_default : goal.returns-in_default
+returns-in_default g c = record {
   seal = seal 0;
   answer = search rules;
   sealed = search rules;

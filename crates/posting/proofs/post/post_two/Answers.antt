@@ -8,13 +8,13 @@ use Rattle.posting.proofs.post.post_two.Goals as goal
 
 pub returns : goal.returns
 returns g c =
-    let one = c.post-one.ensures in
-    let two = c.post-one-2.ensures in
+    let one = c.post_one.ensures in
+    let two = c.post_one-2.ensures in
     let room : postable c.args.change (Two c.args.first c.args.second) c.args.scratch.now c.args.out.now ≡ true = grind (arith, nat_tests) in
     record {
       answer = search rules;
       words = search rules;
       sealed = search rules;
-      output = then_written _ _ _ _ c.args.out.now _ one.output (c.unsealed-length-length.ensures ∙ sym one.as_long) two.output ∙ chosen _ _ room;
+      output = then_written _ _ _ _ c.args.out.now _ one.output (c.unsealed_length-length.ensures ∙ sym one.as_long) two.output ∙ chosen _ _ room;
       scratch_cleared = two.scratch_cleared ∙ ap cleared one.scratch_cleared ∙ cleared_twice _ ∙ search rules;
     }

@@ -5,5 +5,5 @@ use Rattle.seals.proofs.sealing.seal_into.Goals as goal
 
 pub returns : goal.returns
 returns g c =
-    let same = same_length c.args.change c.args.body.now c.sender-seal-seal.result (seal 0) in
+    let same = same_length c.args.change c.args.body.now c.sender_seal-seal.result (seal 0) in
     search rules

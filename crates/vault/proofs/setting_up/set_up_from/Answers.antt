@@ -6,7 +6,7 @@ use Rattle.vault.proofs.setting_up.set_up_from.Goals as goal
 pub returns-in-Err : goal.returns-in-Err
 returns-in-Err g c =
     let f = c.args.faults in
-    let l = c.args.lock-count in
+    let l = c.args.lock_count in
     let m = g.B.Board.meaning c.args.board.now in
     let left = left_alone ((leb 1 f && leb f 5) && (leb 1 l && leb l 8)) (accepts f l c.args.change m c.args.controllers.now c.args.locks.now) f l c.args.change c.in-Err.refusal c.args.controllers.now c.args.locks.now c.in-Err.ensures in
     record { answer = left.answer; controllers = left.controllers; locks = left.locks }

@@ -4,6 +4,6 @@ use Rattle.writing.proofs.bodies.put_basis.Goals as goal
 
 pub returns : goal.returns
 returns c = record {
-  put = rw (← c.number.ensures, ← c.map-of.ensures.map) (put_put (put_put (put_put c.put-at-at.ensures c.put-two-at.ensures.put) c.put-eight-at.ensures.put) c.put-rows.ensures.put);
+  put = rw (← c.number.ensures, ← c.map_of.ensures.map) (put_put (put_put (put_put c.put_at-at.ensures c.put_two-at.ensures.put) c.put_eight-at.ensures.put) c.put_rows.ensures.put);
   bound = omega arith;
 }

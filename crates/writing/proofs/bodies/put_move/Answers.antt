@@ -4,6 +4,6 @@ use Rattle.writing.proofs.bodies.put_move.Goals as goal
 
 pub returns : goal.returns
 returns c = record {
-  put = rw (← c.move-map.ensures, ← c.number.ensures) (put_put (put_put c.put-head-at.ensures.put c.put-at-at.ensures) c.put-grounds.ensures.put);
+  put = rw (← c.move_map.ensures, ← c.number.ensures) (put_put (put_put c.put_head-at.ensures.put c.put_at-at.ensures) c.put_grounds.ensures.put);
   bound = omega arith;
 }

@@ -4,6 +4,6 @@ use Rattle.writing.proofs.bodies.put_result.Goals as goal
 
 pub returns : goal.returns
 returns c = record {
-  put = rw (← c.number-of-number.ensures, ← c.number-bit-map.ensures.bit) (put_put c.put-head-at.ensures.put c.put-number.ensures.put);
+  put = rw (← c.number_of-number.ensures, ← c.number_bit-map.ensures.bit) (put_put c.put_head-at.ensures.put c.put_number.ensures.put);
   bound = omega arith;
 }

@@ -4,6 +4,6 @@ use Rattle.writing.proofs.bodies.put_summons.Goals as goal
 
 pub returns : goal.returns
 returns c = record {
-  put = rw (← c.value.ensures) (put_put (put_put c.put-head-at.ensures.put c.put-four-at.ensures.put) c.put-eight.ensures.put);
+  put = rw (← c.value.ensures) (put_put (put_put c.put_head-at.ensures.put c.put_four-at.ensures.put) c.put_eight.ensures.put);
   bound = omega arith;
 }

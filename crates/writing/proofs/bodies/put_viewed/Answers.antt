@@ -4,6 +4,6 @@ use Rattle.writing.proofs.bodies.put_viewed.Goals as goal
 
 pub returns : goal.returns
 returns c = record {
-  put = rw (← c.number-of-number.ensures, ← c.number-bit.ensures.bit, ← c.number.ensures) (put_put (put_put (put_put c.put-head-at.ensures.put c.put-at-at.ensures) c.put-number-at.ensures.put) c.put-eight.ensures.put);
+  put = rw (← c.number_of-number.ensures, ← c.number_bit.ensures.bit, ← c.number.ensures) (put_put (put_put (put_put c.put_head-at.ensures.put c.put_at-at.ensures) c.put_number-at.ensures.put) c.put_eight.ensures.put);
   bound = omega arith;
 }

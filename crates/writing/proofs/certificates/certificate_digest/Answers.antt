@@ -4,4 +4,4 @@ use Rattle.writing.proofs.Puts.{put_front}
 use Rattle.writing.proofs.certificates.certificate_digest.Goals as goal
 
 pub returns : goal.returns
-returns c = c.digest-of.ensures ∙ ap digest_of (put_front c.put-certificate-n.ensures.put)
+returns c = c.digest_of.ensures ∙ ap digest_of (put_front c.put_certificate-n.ensures.put)

@@ -6,8 +6,8 @@ use Rattle.writing.proofs.maps.map_of.Goals as goal
 pub loop-k-init : goal.loop-k-init
 loop-k-init g c = sym (map_end is_some c.args.rows.now)
 
-pub with-bit-map-requires : goal.with-bit-map-requires
-with-bit-map-requires g c =
+pub with_bit-map-requires : goal.with_bit-map-requires
+with_bit-map-requires g c =
     let e : c.loop-k.map ≡ map_of is_some (drop c.loop-k.k c.args.rows.now) = c.loop-k.invariant in
     omega (arith, map_room is_some c.args.rows.now c.loop-k.k (omega arith) (omega arith))
 

@@ -7,8 +7,8 @@ use Rattle.writing.proofs.maps.ready_map.Goals as goal
 pub loop-k-init : goal.loop-k-init
 loop-k-init c = sym (map_end ready_vote c.args.votes.now)
 
-pub with-bit-map-requires : goal.with-bit-map-requires
-with-bit-map-requires c =
+pub with_bit-map-requires : goal.with_bit-map-requires
+with_bit-map-requires c =
     let e : c.loop-k.map ≡ map_of ready_vote (drop c.loop-k.k c.args.votes.now) = c.loop-k.invariant in
     omega (arith, map_room ready_vote c.args.votes.now c.loop-k.k (omega arith) (omega arith))
 

@@ -5,10 +5,10 @@ use Rattle.writing.proofs.whole.put_both.Goals as goal
 
 pub returns : goal.returns
 returns c =
-    let n : c.put-letter-n.result ≡ length (layout c.args.first.now) = put_count c.put-letter-n.ensures.put in
-    let m : c.put-letter-m.result ≡ length (layout c.args.second.now) = put_count c.put-letter-m.ensures.put in
+    let n : c.put_letter-n.result ≡ length (layout c.args.first.now) = put_count c.put_letter-n.ensures.put in
+    let m : c.put_letter-m.result ≡ length (layout c.args.second.now) = put_count c.put_letter-m.ensures.put in
     record {
-      put = put_tail c.put-letter-n.ensures.put c.put-letter-m.ensures.put;
-      lengths = ap (λ k. (k, c.put-letter-m.result)) n ∙ ap (λ k. (length (layout c.args.first.now), k)) m;
+      put = put_tail c.put_letter-n.ensures.put c.put_letter-m.ensures.put;
+      lengths = ap (λ k. (k, c.put_letter-m.result)) n ∙ ap (λ k. (length (layout c.args.first.now), k)) m;
       bound = omega arith;
     }

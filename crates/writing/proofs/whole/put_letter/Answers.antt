@@ -3,4 +3,4 @@ use Rattle.writing.proofs.Puts.{put_put}
 use Rattle.writing.proofs.whole.put_letter.Goals as goal
 
 pub returns : goal.returns
-returns c = record { put = put_put c.put-body-at.ensures.put c.put-eight.ensures.put; bound = omega arith }
+returns c = record { put = put_put c.put_body-at.ensures.put c.put_eight.ensures.put; bound = omega arith }

@@ -5,9 +5,9 @@ use Rattle.boards.specs.Boards.{each, idle}
 use Rattle.boards.proofs.Made.{filled_more, filled_unfit, filled_fit, filled_all, within_fit, within_same, within_unfit}
 use Rattle.boards.proofs.keypad.Keypad.new.Goals as goal
 
-pub returns-in-default : goal.returns-in-default
-returns-in-default c =
-    let unfit : is_key (get_or c.args.numbers.now c.loop-i.i 0) ≡ false = within_unfit _ _ c.in-default.ensures in
+pub returns-in_default : goal.returns-in_default
+returns-in_default c =
+    let unfit : is_key (get_or c.args.numbers.now c.loop-i.i 0) ≡ false = within_unfit _ _ c.in_default.ensures in
     let refused : each is_key c.args.numbers.now ≡ false = filled_unfit is_key _ _ _ 0 _ c.loop-i.invariant.1 c.loop-i-test.true unfit in
     search rules
 

@@ -5,9 +5,9 @@ use Rattle.boards.specs.Wheels.{in_range, shown}
 use Rattle.boards.proofs.Made.{filled_more, filled_unfit, filled_fit, filled_all, within_fit, within_same, within_unfit}
 use Rattle.boards.proofs.wheel_board.WheelBoard.new.Goals as goal
 
-pub returns-in-default : goal.returns-in-default
-returns-in-default c =
-    let unfit = within_unfit _ _ c.in-default.ensures in
+pub returns-in_default : goal.returns-in_default
+returns-in_default c =
+    let unfit = within_unfit _ _ c.in_default.ensures in
     let refused : each in_range c.args.wheels.now ≡ false = filled_unfit in_range _ _ _ _ _ c.loop-i.invariant.1 c.loop-i-test.true unfit in
     search rules
 

@@ -7,5 +7,5 @@ pub returns : goal.returns
 returns g c =
     let u = c.args.self.now in
     goes-copied c.args.change c.args.sender u c.args.out.now c.args.scratch.now _ (λ z. assenting u c.args.proposal z) _ c.finish-posted.result _ _ _ _
-    c.requires refl c.keep-assent.ensures
+    c.requires refl c.keep_assent.ensures
     c.finish-posted.ensures.ends c.finish-posted.ensures.words c.finish-posted.ensures.sealed c.answer.ensures

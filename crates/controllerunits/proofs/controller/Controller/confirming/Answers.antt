@@ -2,9 +2,9 @@ use Rattle.std.proofs.Common.{rules}
 use Rattle.controllerunits.specs.Rules.{confirming}
 use Rattle.controllerunits.proofs.controller.Controller.confirming.Goals as goal
 
-pub returns-in-default : goal.returns-in-default
+pub returns-in_default : goal.returns-in_default
 unfolding confirming
-returns-in-default c = search rules
+returns-in_default c = search rules
 
 pub returns-then-not-conclude : goal.returns-then-not-conclude
 unfolding confirming

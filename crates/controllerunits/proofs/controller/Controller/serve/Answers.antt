@@ -9,10 +9,10 @@ use Rattle.posting.proofs.Goes.{goes_nowhere, goes_refused, goes_along, has_room
 use Rattle.controllerunits.specs.Letters.{body_rule}
 use Rattle.controllerunits.proofs.controller.Controller.serve.Goals as goal
 
-pub returns-in-err-require-room : goal.returns-in-err-require-room
-returns-in-err-require-room g c =
+pub returns-in_err-require_room : goal.returns-in_err-require_room
+returns-in_err-require_room g c =
     goes_nowhere _ c.args.change c.args.self.now c.args.out.now c.args.scratch.now _ _
-    (has_no_room c.args.out.now c.args.scratch.now _ c.in-err-require-room.ensures) (search rules)
+    (has_no_room c.args.out.now c.args.scratch.now _ c.in_err-require_room.ensures) (search rules)
 
 pub returns-then-number : goal.returns-then-number
 returns-then-number g c =
@@ -22,12 +22,12 @@ returns-then-number g c =
     let from = party_number (sender_of l.body) in
     let other : not (eqb l.change.0 t.0) ≡ true = grind (arith, nat_tests) in
     goes_refused _ t u c.args.out.now c.args.scratch.now _ (ruled R.OtherChange from) _ _
-    (has_room_lem c.args.out.now c.args.scratch.now _ c.in-ok-require-room.ensures)
+    (has_room_lem c.args.out.now c.args.scratch.now _ c.in_ok-require_room.ensures)
     (λ z. ap (λ b. pointed from (cond b (refused R.OtherChange) (body_rule c.args.sizes t u l.body l.seal z))) other)
-    (c.refused-by-rule.ensures ∙ ap (ruled R.OtherChange) c.sender-number-sender.ensures) c.clear.ensures
+    (c.refused_by_rule.ensures ∙ ap (ruled R.OtherChange) c.sender_number-sender.ensures) c.clear.ensures
 
-pub serve-body-requires : goal.serve-body-requires
-serve-body-requires g c = has_room_lem c.args.out.now c.args.scratch.now _ c.in-ok-require-room.ensures
+pub serve_body-requires : goal.serve_body-requires
+serve_body-requires g c = has_room_lem c.args.out.now c.args.scratch.now _ c.in_ok-require_room.ensures
 
 pub returns : goal.returns
 returns g c =
@@ -36,6 +36,6 @@ returns g c =
     let t = c.args.change in
     let from = party_number (sender_of l.body) in
     let same : not (eqb l.change.0 t.0) ≡ false = grind (arith, nat_tests) in
-    goes_along (λ z. ap (λ n. pointed n (body_rule c.args.sizes t u l.body l.seal z)) c.sender-number-sender.ensures
+    goes_along (λ z. ap (λ n. pointed n (body_rule c.args.sizes t u l.body l.seal z)) c.sender_number-sender.ensures
     ∙ sym (ap (λ b. pointed from (cond b (refused R.OtherChange) (body_rule c.args.sizes t u l.body l.seal z))) same))
-    c.serve-body.ensures
+    c.serve_body.ensures

@@ -10,7 +10,7 @@ returns-in-Result g c =
     let m = g.B.Board.meaning c.args.board.now in
     let same = ap (body_rule c.args.sizes k m) (sym c.in-Result.is) in
     record {
-      answer = c.take-result.ensures.answer ∙ ap sends same;
-      lock = c.take-result.ensures.lock ∙ ap (lock_after k) same;
-      board = c.take-result.ensures.board ∙ ap (board_after m k.place) same;
+      answer = c.take_result.ensures.answer ∙ ap sends same;
+      lock = c.take_result.ensures.lock ∙ ap (lock_after k) same;
+      board = c.take_result.ensures.board ∙ ap (board_after m k.place) same;
     }

@@ -9,9 +9,9 @@ use Rattle.lockunits.specs.Rules.{replied, board_after}
 use Rattle.lockunits.proofs.Small.{letter_fits_holds}
 use Rattle.lockunits.proofs.lock.Lock.serve.Goals as goal
 
-pub returns-in-err-require-room : goal.returns-in-err-require-room
-returns-in-err-require-room g c =
-    let none = has_no_room c.args.out.now c.args.scratch.now _ c.in-err-require-room.ensures in
+pub returns-in_err-require_room : goal.returns-in_err-require_room
+returns-in_err-require_room g c =
+    let none = has_no_room c.args.out.now c.args.scratch.now _ c.in_err-require_room.ensures in
     let k = c.args.self.now in
     let m = g.B.Board.meaning c.args.board.now in
     record {
@@ -26,15 +26,15 @@ returns g c =
     let scratch = c.args.scratch.now in
     let m = g.B.Board.meaning c.args.board.now in
     let rule = letter_rule c.args.sizes c.args.change k m c.args.letter in
-    let room = has_room_lem out scratch _ c.in-ok-require-room.ensures in
-    let reply = c.take-letter-reply.ensures in
+    let room = has_room_lem out scratch _ c.in_ok-require_room.ensures in
+    let reply = c.take_letter-reply.ensures in
     let a = c.finish.result in
     record {
       call =
           goes-in-place c.args.change (party_number (sender_of c.args.letter.body)) k out scratch _ (replied rule) _ a _ _ _ _
           room (letter_fits_holds c.args.change k out scratch room c.args.sizes m c.args.letter)
           reply.answer reply.lock
-          (c.finish.ensures.ends ∙ ap (λ n. ended c.args.change n c.take-letter-reply.result (seals_in a) out scratch) c.sender-number-sender.ensures)
+          (c.finish.ensures.ends ∙ ap (λ n. ended c.args.change n c.take_letter-reply.result (seals_in a) out scratch) c.sender_number-sender.ensures)
           c.finish.ensures.words c.finish.ensures.sealed c.answer.ensures;
       board = reply.board ∙ sym (ap (λ b. cond b (board_after m k.place rule) m) room);
     }

@@ -2,8 +2,8 @@ use Rattle.std.proofs.Common.{◌≡◌, ◌+◌, ◌-◌, sym, ap, ◌∙◌, a
 use Rattle.seals.proofs.Accepts.{accept_row, accept_no_row}
 use Rattle.seals.proofs.guard.Guard.accept_rows.Goals as goal
 
-pub returns-in-err-n : goal.returns-in-err-n
-returns-in-err-n g c =
+pub returns-in_err-n : goal.returns-in_err-n
+returns-in_err-n g c =
     let more = accept_row (g.S.Scheme.holds c.args.scheme.now) (g.R.SealRows.row c.args.rows.now) c.loop-k.k c.args.count c.loop-k.n (omega arith) in
     search rules
 

@@ -12,7 +12,7 @@ returns-in-Some-Controller g c =
     let s = state c.args.controllers.now c.args.locks.now c.args.self.now (g.B.Board.meaning c.args.board.now) in
     let asked = call (hands_in c.args.unit c.args.bytes.now) c.args.out.now c.args.scratch.now in
     let to : party_in v.sizes c.args.unit ≡ Some (P.Controller c.in-Some-Controller.seat) = search rules in
-    step_by v s asked _ _ (ap (handed v s asked c.args.bytes.now) to) c.hand-to-controller.ensures
+    step_by v s asked _ _ (ap (handed v s asked c.args.bytes.now) to) c.hand_to_controller.ensures
 
 pub returns-in-Some-Lock : goal.returns-in-Some-Lock
 returns-in-Some-Lock g c =
@@ -20,7 +20,7 @@ returns-in-Some-Lock g c =
     let s = state c.args.controllers.now c.args.locks.now c.args.self.now (g.B.Board.meaning c.args.board.now) in
     let asked = call (hands_in c.args.unit c.args.bytes.now) c.args.out.now c.args.scratch.now in
     let to : party_in v.sizes c.args.unit ≡ Some (P.Lock c.in-Some-Lock.place) = search rules in
-    step_by v s asked _ _ (ap (handed v s asked c.args.bytes.now) to) c.hand-to-lock.ensures
+    step_by v s asked _ _ (ap (handed v s asked c.args.bytes.now) to) c.hand_to_lock.ensures
 
 pub returns-in-Some-Office : goal.returns-in-Some-Office
 returns-in-Some-Office g c =
@@ -28,7 +28,7 @@ returns-in-Some-Office g c =
     let s = state c.args.controllers.now c.args.locks.now c.args.self.now (g.B.Board.meaning c.args.board.now) in
     let asked = call (hands_in c.args.unit c.args.bytes.now) c.args.out.now c.args.scratch.now in
     let to : party_in v.sizes c.args.unit ≡ Some P.Office = search rules in
-    no_such_step v s asked c.no-such-unit.result (ap (handed v s asked c.args.bytes.now) to, c.no-such-unit.ensures)
+    no_such_step v s asked c.no_such_unit.result (ap (handed v s asked c.args.bytes.now) to, c.no_such_unit.ensures)
 
 pub returns-in-None : goal.returns-in-None
 returns-in-None g c =
@@ -36,4 +36,4 @@ returns-in-None g c =
     let s = state c.args.controllers.now c.args.locks.now c.args.self.now (g.B.Board.meaning c.args.board.now) in
     let asked = call (hands_in c.args.unit c.args.bytes.now) c.args.out.now c.args.scratch.now in
     let to : party_in v.sizes c.args.unit ≡ None = search rules in
-    no_such_step v s asked c.no-such-unit-in-None.result (ap (handed v s asked c.args.bytes.now) to, c.no-such-unit-in-None.ensures)
+    no_such_step v s asked c.no_such_unit-in-None.result (ap (handed v s asked c.args.bytes.now) to, c.no_such_unit-in-None.ensures)

@@ -12,16 +12,16 @@ returns-then-at-locks g c =
     let s = state c.args.controllers.now c.args.locks.now c.args.self.now (g.B.Board.meaning c.args.board.now) in
     let asked = call (hands_in c.args.unit c.args.bytes.now) c.args.out.now c.args.scratch.now in
     let n = c.args.place.0 in
-    hands_to_nobody v s asked c.args.bytes.now (letter_to_lock v s n (lock_at s n)) n _ _ (λ l. omega (arith, c.number-at.ensures)) c.no-such-unit.ensures
+    hands_to_nobody v s asked c.args.bytes.now (letter_to_lock v s n (lock_at s n)) n _ _ (λ l. omega (arith, c.number-at.ensures)) c.no_such_unit.ensures
 
-pub returns-in-err-require-room : goal.returns-in-err-require-room
-returns-in-err-require-room g c =
+pub returns-in_err-require_room : goal.returns-in_err-require_room
+returns-in_err-require_room g c =
     let v = constant c.args.self.now (g.S.Scheme.holds c.args.scheme.now) in
     let s = state c.args.controllers.now c.args.locks.now c.args.self.now (g.B.Board.meaning c.args.board.now) in
     let asked = call (hands_in c.args.unit c.args.bytes.now) c.args.out.now c.args.scratch.now in
     let n = c.args.place.0 in
     hands_without_room v s asked c.args.bytes.now (letter_to_lock v s n (lock_at s n)) n _ _ (omega (arith, c.number-at.ensures))
-    (has_no_room c.args.out.now c.args.scratch.now _ c.in-err-require-room.ensures) (search rules)
+    (has_no_room c.args.out.now c.args.scratch.now _ c.in_err-require_room.ensures) (search rules)
 
 pub returns-in-Err : goal.returns-in-Err
 returns-in-Err g c =
@@ -30,7 +30,7 @@ returns-in-Err g c =
     let asked = call (hands_in c.args.unit c.args.bytes.now) c.args.out.now c.args.scratch.now in
     let n = c.args.place.0 in
     hands_unopened v s asked c.args.bytes.now (letter_to_lock v s n (lock_at s n)) n _ c.in-Err.refusal _ (omega (arith, c.number-at.ensures))
-    (has_room_lem c.args.out.now c.args.scratch.now _ c.in-ok-require-room.ensures) c.in-Err.ensures.answer c.in-Err.ensures.scratch_cleared
+    (has_room_lem c.args.out.now c.args.scratch.now _ c.in_ok-require_room.ensures) c.in-Err.ensures.answer c.in-Err.ensures.scratch_cleared
 
 pub returns-in-Ok : goal.returns-in-Ok
 returns-in-Ok g c =
@@ -38,7 +38,7 @@ returns-in-Ok g c =
     let s = state c.args.controllers.now c.args.locks.now c.args.self.now (g.B.Board.meaning c.args.board.now) in
     let asked = call (hands_in c.args.unit c.args.bytes.now) c.args.out.now c.args.scratch.now in
     let n = c.args.place.0 in
-    let room = has_room_lem c.args.out.now c.args.scratch.now _ c.in-ok-require-room.ensures in
+    let room = has_room_lem c.args.out.now c.args.scratch.now _ c.in_ok-require_room.ensures in
     hands_opened v s asked c.args.bytes.now (letter_to_lock v s n (lock_at s n)) n _ (shown c.in-Ok.opened.letter) _ (omega (arith, c.number-at.ensures)) room
     c.in-Ok.ensures.answer
     (lock_receives v s asked n c.number-at.result _ (shown c.in-Ok.opened.letter) _ _ _ c.number-at.ensures (omega (arith, c.number-at.ensures)) room c.in-Ok.ensures.scratch_cleared c.receive.ensures.call c.receive.ensures.board)
