@@ -25,7 +25,7 @@ pub trait Ballot {
 
 // How many of the ballots agree with one.
 pub fn tally<B: Ballot>(ballots: &[Option<B>], with: &B) -> usize
-    ensures { result ≡ count_agree agree with.now ballots.now }
+    ensures { result ≡ count_agree B.agree with.now ballots.now }
 {
     let mut count: usize = 0;
     for slot in ballots {
@@ -40,8 +40,8 @@ pub fn tally<B: Ballot>(ballots: &[Option<B>], with: &B) -> usize
 
 // Whether two ballots have, together, more in agreement than there are seats; then they agree.
 pub fn exceed_seats<B: Ballot>(ballots: &[Option<B>], a: &B, b: &B) -> bool
-    ensures value { result ≡ nat_lt (length ballots.now) (count_agree agree a.now ballots.now + count_agree agree b.now ballots.now) }
-    ensures together_they_agree { result ≡ true → agree a.now b.now ≡ true }
+    ensures value { result ≡ nat_lt (length ballots.now) (count_agree B.agree a.now ballots.now + count_agree B.agree b.now ballots.now) }
+    ensures together_they_agree { result ≡ true → B.agree a.now b.now ≡ true }
 {
     let seats = ballots.len();
     let first = tally(ballots, a);

@@ -6,8 +6,8 @@ use Rattle.letters.specs.Bytes.{written}
 use Rattle.writing.specs.Puts.{Put}
 
 -- what `out[at..next].copy_from_slice(..)` leaves
-pub put_mid : (at k : ℕ) (t ys zs : List ℕ) → k ≡ length zs → ys ≡ zs → at + length zs ≤ length t → Put t at zs (put_mid at k t ys) (at + length zs)
-put_mid at k t ys zs e q h = record { buffer = rw (q, e, drop-drop (length zs) at t) refl; after = refl; within = h }
+pub put_mid_lem : (at k : ℕ) (t ys zs : List ℕ) → k ≡ length zs → ys ≡ zs → at + length zs ≤ length t → Put t at zs (put_mid at k t ys) (at + length zs)
+put_mid_lem at k t ys zs e q h = record { buffer = rw (q, e, drop-drop (length zs) at t) refl; after = refl; within = h }
 
 -- nothing put
 pub put_none : (t : List ℕ) (at : ℕ) → at ≤ length t → Put t at [] t at
