@@ -1,4 +1,5 @@
 // What is told of a refusal.
+use anyhow::anyhow;
 use std::io;
 use terms::refusals::Refusal;
 
@@ -6,7 +7,7 @@ use terms::refusals::Refusal;
 pub fn or_sentence<T>(answer: Result<T, Refusal>) -> anyhow::Result<T> {
     match answer {
         Ok(value) => Ok(value),
-        Err(refusal) => Err(refusal.cause.sentence().into()),
+        Err(refusal) => Err(anyhow!(refusal.cause.sentence())),
     }
 }
 

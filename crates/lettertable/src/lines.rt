@@ -45,7 +45,7 @@ fn bytes_of(heap: Global, text: &str) -> anyhow::Result<Vec<u8>> {
 fn sizes_of(faults: u32, locks: u32) -> anyhow::Result<Sizes> {
     match Sizes::new(faults, locks) {
         Ok(sizes) => Ok(sizes),
-        Err(refusal) => Err(refusal.cause.sentence().into()),
+        Err(refusal) => Err(anyhow!(refusal.cause.sentence())),
     }
 }
 
