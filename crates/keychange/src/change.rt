@@ -15,8 +15,8 @@ fn stage_at<B: Board>(
     place: Place,
     number: KeyNumber,
 ) -> io::Result<bool>
-    ensures answer { elim result [ Ok took ↦ took ≡ stages (meaning board.old) place number | Err e ↦ Unit {0} ] }
-    ensures board_after { meaning board.new ≡ after_stage (meaning board.old) place number }
+    ensures answer { elim result [ Ok took ↦ took ≡ stages (B.meaning board.old) place number | Err e ↦ Unit {0} ] }
+    ensures board_after { B.meaning board.new ≡ after_stage (B.meaning board.old) place number }
 {
     let p = place.number();
     let force = Digits(board.in_force(place));
@@ -35,7 +35,7 @@ fn stage_at<B: Board>(
 
 // Stages the number at every place, and says whether all took it.
 fn stage_everywhere<B: Board>(rt: &impl Print, board: &mut B, number: KeyNumber) -> io::Result<bool>
-    ensures { elim result [ Ok all ↦ (all ≡ Everywhere.took (meaning board.old) number) × (meaning board.new ≡ Everywhere.staged (meaning board.old) number) | Err e ↦ Unit {0} ] }
+    ensures { elim result [ Ok all ↦ (all ≡ Everywhere.took (B.meaning board.old) number) × (B.meaning board.new ≡ Everywhere.staged (B.meaning board.old) number) | Err e ↦ Unit {0} ] }
 {
     let mut all = true;
     for n in 0..board.places() {
@@ -48,7 +48,7 @@ fn stage_everywhere<B: Board>(rt: &impl Print, board: &mut B, number: KeyNumber)
 }
 
 fn take_over_at<B: Board>(rt: &impl Print, board: &mut B, place: Place) -> io::Result<()>
-    ensures { meaning board.new ≡ after_take_over (meaning board.old) place }
+    ensures { B.meaning board.new ≡ after_take_over (B.meaning board.old) place }
 {
     let p = place.number();
     if !board.take_over(place) {
@@ -59,7 +59,7 @@ fn take_over_at<B: Board>(rt: &impl Print, board: &mut B, place: Place) -> io::R
 }
 
 fn take_over_everywhere<B: Board>(rt: &impl Print, board: &mut B) -> io::Result<()>
-    ensures { elim result [ Ok u ↦ meaning board.new ≡ Everywhere.taken_over (meaning board.old) | Err e ↦ Unit {0} ] }
+    ensures { elim result [ Ok u ↦ B.meaning board.new ≡ Everywhere.taken_over (B.meaning board.old) | Err e ↦ Unit {0} ] }
 {
     for n in 0..board.places() {
         if let Some(place) = Place::new(n) {
@@ -70,7 +70,7 @@ fn take_over_everywhere<B: Board>(rt: &impl Print, board: &mut B) -> io::Result<
 }
 
 fn drop_at<B: Board>(rt: &impl Print, board: &mut B, place: Place) -> io::Result<()>
-    ensures { meaning board.new ≡ after_drop (meaning board.old) place }
+    ensures { B.meaning board.new ≡ after_drop (B.meaning board.old) place }
 {
     let p = place.number();
     let force = Digits(board.in_force(place));
@@ -82,7 +82,7 @@ fn drop_at<B: Board>(rt: &impl Print, board: &mut B, place: Place) -> io::Result
 }
 
 fn drop_everywhere<B: Board>(rt: &impl Print, board: &mut B) -> io::Result<()>
-    ensures { elim result [ Ok u ↦ meaning board.new ≡ Everywhere.dropped (meaning board.old) | Err e ↦ Unit {0} ] }
+    ensures { elim result [ Ok u ↦ B.meaning board.new ≡ Everywhere.dropped (B.meaning board.old) | Err e ↦ Unit {0} ] }
 {
     for n in 0..board.places() {
         if let Some(place) = Place::new(n) {
@@ -94,7 +94,7 @@ fn drop_everywhere<B: Board>(rt: &impl Print, board: &mut B) -> io::Result<()>
 
 // Gives all doors the number if every place takes it; else every door keeps its own.
 pub fn change_to<B: Board>(rt: &impl Print, board: &mut B, number: KeyNumber) -> io::Result<()>
-    ensures { elim result [ Ok u ↦ meaning board.new ≡ Everywhere.changed (meaning board.old) number | Err e ↦ Unit {0} ] }
+    ensures { elim result [ Ok u ↦ B.meaning board.new ≡ Everywhere.changed (B.meaning board.old) number | Err e ↦ Unit {0} ] }
 {
     print_doors(rt, board)?;
     if stage_everywhere(rt, board, number)? {
