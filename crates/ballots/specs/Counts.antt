@@ -1,5 +1,5 @@
 -- Counting ballots that agree.
-use Rattle.std.specs.Prelude.{ℕ, Bool, true, false, List, Some, None, count_by, Option}
+use Rattle.std.specs.Prelude.{ℕ, Bool, false, List, Some, None, count_by, Option}
 
 -- a ballot is there and agrees with v
 abbrev pub votes_for : {V : Type 0} → (V → V → Bool) → V → Option V → Bool

@@ -16,7 +16,7 @@ use terms::refusals::RuleCause;
 use terms::sizes::Sizes;
 use writing::certificates::certificate_digest;
 
-fn same_number_lem(a: Option<KeyNumber>, b: Option<KeyNumber>) -> bool
+fn same_number(a: Option<KeyNumber>, b: Option<KeyNumber>) -> bool
     ensures { result ≡ Rules.same_number a b }
 {
     match (a, b) {
@@ -32,7 +32,7 @@ fn may_order(held: Option<Order>, number: Option<KeyNumber>) -> Result<(), RuleC
     let Some(held) = held else {
         return Ok(());
     };
-    if same_number_lem(held.number, number) {
+    if same_number(held.number, number) {
         return Err(RuleCause::Repeated);
     }
     Err(RuleCause::Differs)

@@ -1,8 +1,7 @@
 -- Rows read one after the other.
-use Rattle.std.proofs.Common.{◌≡◌, ℕ, zero, suc, ◌+◌, ◌-◌, ◌/◌, ◌%◌, ◌<◌, Bool, cond, eqb, List, [], ◌∷◌, ◌++◌, length, get_or, take, drop, set, Some, None, Option, sym, refl, ap, ◌∙◌, add-one, arith}
+use Rattle.std.proofs.Common.{◌≡◌, ℕ, zero, suc, ◌+◌, ◌-◌, ◌/◌, ◌<◌, List, [], ◌∷◌, ◌++◌, length, get_or, take, drop, set, None, Option, sym, refl, ap, ◌∙◌, add-one, arith}
 use Rattle.std.proofs.lemmas.List.{take_all, append-nil, drop_more, drop_all}
 use Rattle.letters.specs.declared.sorts.Seal.{Seal}
-use Rattle.letters.specs.declared.certificates.Vote.{Vote}
 use Rattle.letters.specs.Bytes.{lowest, row_at, after_row, rows_at}
 use Rattle.kept.specs.Kept.{vote_of, votes_of}
 

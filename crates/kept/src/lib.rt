@@ -19,7 +19,7 @@ fn byte_at(bytes: &[u8], at: usize) -> u8
     if at < bytes.len() { bytes[at] } else { 0 }
 }
 
-fn two_at_lem(bytes: &[u8], at: usize) -> u16
+fn two_at(bytes: &[u8], at: usize) -> u16
     requires { at < 1000 }
     ensures { result ≡ two_at bytes.now at }
 {
@@ -169,7 +169,7 @@ pub fn basis_in(grounds: Grounds) -> Basis
 {
     let bytes = grounds.basis.bytes;
     let mut assents = [None; 16];
-    read_rows(&mut assents, two_at_lem(bytes, 1), bytes, 11);
+    read_rows(&mut assents, two_at(bytes, 1), bytes, 11);
     Basis {
         view: View::new(byte_at(bytes, 0)),
         outcome: grounds.outcome,

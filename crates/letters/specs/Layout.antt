@@ -1,13 +1,11 @@
 -- The bytes of a letter.
-use Rattle.std.specs.Prelude.{ℕ, ◌+◌, ◌/◌, ◌%◌, ◌^◌, Bool, true, false, cond, List, [], ◌∷◌, ◌++◌, is_some, Some, None, Option, ◌==◌}
+use Rattle.std.specs.Prelude.{ℕ, ◌+◌, ◌/◌, ◌%◌, ◌^◌, cond, List, [], ◌∷◌, ◌++◌, is_some, Some, None, Option, ◌==◌}
 use Rattle.terms.specs.declared.numbers.Change.{Change}
 use Rattle.terms.specs.declared.numbers.KeyNumber.{KeyNumber}
 use Rattle.terms.specs.declared.numbers.View.{View}
-use Rattle.terms.specs.declared.parties.Outcome.{Outcome}
 use Rattle.terms.specs.declared.parties.Party.{Party}
 use Rattle.terms.specs.declared.parties.Party.TheVariants.{Controller, Lock, Office}
 use Rattle.terms.specs.Parties.{party_number}
-use Rattle.letters.specs.declared.sorts.Seal.{Seal}
 use Rattle.letters.specs.declared.sorts.SeatSet.{SeatSet}
 use Rattle.letters.specs.declared.sorts.Kind.{Kind}
 use Rattle.letters.specs.declared.sorts.Kind.TheVariants as K

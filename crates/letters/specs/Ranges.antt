@@ -1,5 +1,5 @@
 -- Letters within range, for a vault of given sizes.
-use Rattle.std.specs.Prelude.{◌≡◌, ℕ, zero, suc, ◌+◌, ◌*◌, ◌^◌, Bool, true, false, cond, not, ◌&&◌, List, [], ◌∷◌, length, is_some, Some, None, Option, ◌==◌, count_ones, nat_lt}
+use Rattle.std.specs.Prelude.{ℕ, ◌*◌, ◌^◌, Bool, true, cond, not, ◌&&◌, List, [], ◌∷◌, length, is_some, Some, None, Option, ◌==◌, count_ones, nat_lt}
 use Rattle.terms.specs.declared.numbers.Change.{Change}
 use Rattle.terms.specs.declared.numbers.KeyNumber.{KeyNumber}
 use Rattle.terms.specs.declared.numbers.Place.{Place}
@@ -10,7 +10,6 @@ use Rattle.terms.specs.Numbers.{is_change, is_key}
 use Rattle.terms.specs.Parties.{leader_of}
 use Rattle.terms.specs.Sizes.{seat_count, quorum_of}
 use Rattle.letters.specs.declared.sorts.Seal.{Seal}
-use Rattle.letters.specs.declared.sorts.Digest.{Digest}
 use Rattle.letters.specs.declared.certificates.Certificate.{Certificate}
 use Rattle.letters.specs.declared.certificates.Basis.{Basis}
 use Rattle.letters.specs.declared.certificates.Vote.{Vote as CastVote}
@@ -18,7 +17,7 @@ use Rattle.letters.specs.declared.bodies.Letter.{Letter}
 use Rattle.letters.specs.declared.bodies.Body.{Body}
 use Rattle.letters.specs.declared.bodies.Body.TheVariants.{Enrol, Receipt, Order, Summons, Vote, Proposal, Assent, Confirm, Result, Move}
 use Rattle.letters.specs.Bytes.{map_of}
-use Rattle.letters.specs.Certificates.{ready_vote, vote_seals}
+use Rattle.letters.specs.Certificates.{vote_seals}
 use Rattle.letters.specs.Sorts.{stands}
 use Rattle.letters.specs.Statements.{outcome_number}
 

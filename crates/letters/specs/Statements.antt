@@ -1,5 +1,5 @@
 -- Statements: what a seal stands on.
-use Rattle.std.specs.Prelude.{ℕ, ◌+◌, ◌*◌, ◌%◌, Bool, true, false, cond, List, [], ◌∷◌, ◌++◌, is_some, Some, None, Option}
+use Rattle.std.specs.Prelude.{ℕ, ◌+◌, ◌%◌, Bool, false, cond, List, [], ◌∷◌, ◌++◌, is_some, Some, None, Option}
 use Rattle.terms.specs.declared.numbers.Change.{Change}
 use Rattle.terms.specs.declared.numbers.KeyNumber.{KeyNumber}
 use Rattle.terms.specs.declared.numbers.Place.{Place}
@@ -12,7 +12,6 @@ use Rattle.terms.specs.declared.parties.Party.TheVariants.{Controller, Lock, Off
 use Rattle.terms.specs.Parties.{party_number}
 use Rattle.letters.specs.declared.sorts.Digest.{Digest}
 use Rattle.letters.specs.declared.sorts.Answer.{Answer}
-use Rattle.letters.specs.declared.sorts.Answer.TheVariants.{Ready, Refuse}
 use Rattle.letters.specs.declared.sorts.Kind.{Kind}
 use Rattle.letters.specs.declared.sorts.Kind.TheVariants as K
 use Rattle.letters.specs.declared.bodies.Brief.{Brief}

@@ -1,5 +1,5 @@
 -- Which rule of a lock a letter falls under.
-use Rattle.std.specs.Prelude.{ℕ, Bool, cond, not, ◌==◌}
+use Rattle.std.specs.Prelude.{cond, not, ◌==◌}
 use Rattle.terms.specs.declared.numbers.Change.{Change}
 use Rattle.terms.specs.declared.refusals.RuleCause.TheVariants as R
 use Rattle.terms.specs.declared.sizes.Sizes.{Sizes}

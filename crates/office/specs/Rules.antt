@@ -1,5 +1,5 @@
 -- The rule of the office: it orders a number or a cancel, once.
-use Rattle.std.specs.Prelude.{ℕ, Bool, true, false, cond, Some, None, Option}
+use Rattle.std.specs.Prelude.{ℕ, Bool, true, cond, Some, None, Option}
 use Rattle.terms.specs.declared.numbers.KeyNumber.{KeyNumber}
 use Rattle.terms.specs.declared.refusals.CallCause.TheVariants as C
 use Rattle.terms.specs.declared.refusals.Cause.TheVariants as Cause

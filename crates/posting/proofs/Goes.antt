@@ -1,5 +1,5 @@
 -- A call that ended by what its rule replied goes by that rule.
-use Rattle.std.proofs.Common.{◌≡◌, ℕ, ◌≤◌, Bool, true, false, cond, ◌&&◌, leb, List, length, is_ok as isOk, Ok, Err, Result, sym, refl, ap, ◌∙◌, subst, arith}
+use Rattle.std.proofs.Common.{◌≡◌, ℕ, ◌≤◌, Bool, true, false, cond, ◌&&◌, List, length, is_ok as isOk, Ok, Err, Result, sym, refl, ap, ◌∙◌, arith}
 use Rattle.std.proofs.lemmas.Bool.Decides.{nat_tests}
 use Rattle.terms.specs.declared.numbers.Change.{Change}
 use Rattle.terms.specs.declared.refusals.Refusal.{Refusal}
@@ -13,7 +13,7 @@ use Rattle.posting.specs.declared.few.AtMostTwo.{AtMostTwo}
 use Rattle.posting.specs.declared.few.Posted.{Posted}
 use Rattle.posting.specs.declared.few.Seals.{Seals}
 use Rattle.posting.specs.Calls.{enough, has_room, room_answer, ruled, pointed, Went, went, finished, called, reply_sealed, Goes, Ending, ending, ended, sent_sealed, answered, keeping}
-use Rattle.posting.specs.Posting.{are_words, fits, postable, bytes_of, lengths_of, all_sealed, no_seals, seals_in}
+use Rattle.posting.specs.Posting.{are_words, fits, bytes_of, lengths_of, no_seals, seals_in}
 use Rattle.posting.specs.Replies.{Bodies, Reply, refused, served, sends, after}
 use Rattle.posting.proofs.Writes.{cleared_twice, length_cleared}
 

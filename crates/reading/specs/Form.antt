@@ -1,5 +1,5 @@
 -- The form of a letter: map, kind, fit, then the fields whose bit stands, in the order of the bits.
-use Rattle.std.specs.Prelude.{ℕ, ◌+◌, ◌-◌, Bool, true, false, cond, not, ◌&&◌, ◌||◌, List, Ok, Err, Result as Res, ◌==◌, bit_and}
+use Rattle.std.specs.Prelude.{ℕ, ◌+◌, ◌-◌, Bool, cond, not, ◌&&◌, ◌||◌, List, Ok, Result as Res, ◌==◌, bit_and}
 use Rattle.terms.specs.declared.numbers.Change.{Change}
 use Rattle.terms.specs.declared.numbers.Seat.{Seat}
 use Rattle.terms.specs.declared.numbers.View.{View}

@@ -1,5 +1,5 @@
 -- Parts of a letter's bytes, without references.
-use Rattle.std.specs.Prelude.{ℕ, ◌-◌, List, take, drop, Some, None, Ok, Err, Option, Result}
+use Rattle.std.specs.Prelude.{ℕ, ◌-◌, List, take, drop, Ok, Err, Result}
 use Rattle.terms.specs.declared.parties.Outcome.{Outcome}
 use Rattle.terms.specs.declared.refusals.Refusal.{Refusal}
 use Rattle.letters.specs.declared.bodies.Letter.{Letter}

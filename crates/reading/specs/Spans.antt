@@ -1,5 +1,5 @@
 -- The certificate and the basis in a letter's bytes.
-use Rattle.std.specs.Prelude.{ℕ, ◌+◌, ◌*◌, ◌/◌, ◌^◌, Bool, true, false, cond, not, ◌&&◌, ◌||◌, List, Some, None, Ok, Err, Option, ◌==◌, bit_and, count_ones, nat_lt}
+use Rattle.std.specs.Prelude.{ℕ, ◌*◌, ◌/◌, ◌^◌, Bool, true, false, not, ◌&&◌, ◌||◌, List, Some, None, Ok, Option, ◌==◌, bit_and, count_ones, nat_lt}
 use Rattle.terms.specs.declared.numbers.Change.{Change}
 use Rattle.terms.specs.declared.numbers.View.{View}
 use Rattle.terms.specs.declared.sizes.Sizes.{Sizes}

@@ -1,5 +1,5 @@
 -- What is read has the bytes of the letter kept, and is within range.
-use Rattle.std.proofs.Common.{◌≡◌, ℕ, ◌+◌, ◌-◌, ◌/◌, ◌%◌, Bool, true, false, cond, not, ◌&&◌, eqb, ltb, leb, List, [], ◌∷◌, length, Some, None, Ok, Option, sym, refl, ap, subst, arith}
+use Rattle.std.proofs.Common.{◌≡◌, ℕ, ◌+◌, ◌/◌, ◌%◌, Bool, true, false, cond, not, ◌&&◌, eqb, ltb, leb, List, [], ◌∷◌, length, Some, None, Ok, Option, sym, refl, ap, subst, arith}
 use Rattle.std.proofs.lemmas.Bool.{leb-true, ltb-true, eqb-true, and_parts, and_from}
 use Rattle.terms.specs.declared.numbers.Change.{Change}
 use Rattle.terms.specs.declared.sizes.Sizes.{Sizes}
@@ -8,8 +8,7 @@ use Rattle.letters.specs.declared.sorts.Kind.TheVariants as K
 use Rattle.letters.specs.declared.certificates.Certificate.{Certificate}
 use Rattle.letters.specs.declared.bodies.Letter.{Letter}
 use Rattle.letters.specs.declared.bodies.Body.{Body}
-use Rattle.letters.specs.declared.bodies.Body.TheVariants.{Enrol, Receipt, Order, Summons, Vote, Proposal, Assent, Confirm, Result, Move}
-use Rattle.letters.specs.Bodies.{each_basis, letter}
+use Rattle.letters.specs.Bodies.{each_basis}
 use Rattle.letters.specs.Bytes.{le2}
 use Rattle.letters.specs.Certificates.{certificate_bytes, digest_of}
 use Rattle.letters.specs.Layout.{bit, common, body_bytes, layout}

@@ -1,5 +1,5 @@
 -- The weighted sum, one byte more; and that of no words at all.
-use Rattle.std.proofs.Common.{◌≡◌, ℕ, zero, suc, ◌+◌, ◌*◌, ◌%◌, ◌^◌, List, [], get_or, refl, ap, ◌∙◌, add-one, arith}
+use Rattle.std.proofs.Common.{◌≡◌, ℕ, zero, suc, ◌+◌, ◌*◌, ◌%◌, ◌^◌, List, [], get_or, refl, ap, add-one, arith}
 use Rattle.schemes.specs.Sheet.{weighted, sheet_sum}
 
 pub weighted_none : (words bytes : List ℕ) → weighted words bytes 0 ≡ get_or words 0 0

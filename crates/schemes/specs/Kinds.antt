@@ -1,5 +1,5 @@
 -- The two kinds of seals, by their rows.
-use Rattle.std.specs.Prelude.{ℕ, Bool, true, false, cond, List, [], replicate, Ok, Err, Result, ◌==◌, slice_index_or}
+use Rattle.std.specs.Prelude.{ℕ, Bool, cond, List, [], Ok, Err, Result, ◌==◌, slice_index_or}
 use Rattle.terms.specs.declared.parties.Party.{Party}
 use Rattle.terms.specs.declared.refusals.Refusal.{Refusal}
 use Rattle.terms.specs.Refusals.{set_up}

@@ -1,5 +1,5 @@
 -- The rows of keys or words, by party.
-use Rattle.std.specs.Prelude.{ℕ, ◌+◌, Bool, cond, List, length, nat_le}
+use Rattle.std.specs.Prelude.{ℕ, ◌+◌, Bool, List, length, nat_le}
 use Rattle.terms.specs.declared.parties.Party.{Party}
 use Rattle.terms.specs.declared.parties.Party.TheVariants.{Controller, Lock, Office}
 

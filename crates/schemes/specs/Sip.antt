@@ -1,5 +1,5 @@
 -- SipHash-2-4, on numbers below 2 ^ 64.
-use Rattle.std.specs.Prelude.{ℕ, zero, suc, ◌+◌, ◌-◌, ◌*◌, ◌/◌, ◌%◌, ◌^◌, List, [], ◌∷◌, length, bit_or, bit_xor}
+use Rattle.std.specs.Prelude.{ℕ, zero, suc, ◌+◌, ◌-◌, ◌*◌, ◌/◌, ◌%◌, ◌^◌, List, length, bit_or, bit_xor}
 use Rattle.letters.specs.Bytes.{eight_at}
 use Rattle.schemes.specs.declared.sip.State.{State}
 

@@ -1,5 +1,5 @@
 -- Accepting seal after seal.
-use Rattle.std.proofs.Common.{◌≡◌, ℕ, suc, ◌+◌, ◌-◌, ◌<◌, Bool, true, false, cond, List, [], ◌∷◌, ◌++◌, Some, None, Ok, Err, Option, Result as Res, sym, refl, ap, ◌∙◌, arith}
+use Rattle.std.proofs.Common.{◌≡◌, ℕ, suc, ◌+◌, ◌-◌, ◌<◌, List, [], ◌∷◌, ◌++◌, Some, None, Ok, Err, Option, Result as Res, refl, ap, ◌∙◌, arith}
 use Rattle.terms.specs.declared.refusals.Refusal.{Refusal}
 use Rattle.letters.specs.declared.statements.Borne.{Borne}
 use Rattle.letters.specs.Inner.{consed, rows_borne}

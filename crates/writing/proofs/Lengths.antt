@@ -1,5 +1,5 @@
 -- How long letters and their parts are.
-use Rattle.std.proofs.Common.{◌≡◌, ℕ, ◌+◌, ◌*◌, ◌/◌, ◌%◌, ◌^◌, ◌<◌, ◌≤◌, Bool, true, false, cond, not, ◌&&◌, eqb, ltb, List, [], ◌∷◌, ◌++◌, length, is_some, Some, None, Option, sym, refl, ap, ◌∙◌, arith, lit<}
+use Rattle.std.proofs.Common.{◌≡◌, ℕ, ◌+◌, ◌*◌, ◌/◌, ◌%◌, ◌^◌, ◌≤◌, true, eqb, ltb, List, [], ◌∷◌, ◌++◌, length, is_some, Some, None, Option, sym, refl, ap, ◌∙◌, arith, lit<}
 use lib.Count.{ones, ones_step, ones-le}
 use Rattle.std.proofs.lemmas.List.{length-append}
 use Rattle.std.proofs.lemmas.Bool.{cond_both, eqb-true, ltb-true}
@@ -13,8 +13,8 @@ use Rattle.letters.specs.declared.sorts.SeatSet.{SeatSet}
 use Rattle.letters.specs.declared.certificates.Vote.{Vote as CastVote}
 use Rattle.letters.specs.declared.certificates.Certificate.{Certificate}
 use Rattle.letters.specs.declared.certificates.Basis.{Basis}
-use Rattle.letters.specs.Bytes.{le2, le4, le8, map_of, row_bytes, seal_bytes}
-use Rattle.letters.specs.Certificates.{vote_seals, vote_seal, number_bytes, certificate_bytes}
+use Rattle.letters.specs.Bytes.{le2, le4, le8, map_of, row_bytes}
+use Rattle.letters.specs.Certificates.{vote_seals, number_bytes, certificate_bytes}
 use Rattle.letters.specs.declared.bodies.Body.{Body}
 use Rattle.letters.specs.declared.bodies.Body.TheVariants.{Enrol, Receipt, Order, Summons, Vote, Proposal, Assent, Confirm, Result, Move}
 use Rattle.letters.specs.Layout.{movers_bytes, basis_bytes, grounds_bytes, body_bytes}

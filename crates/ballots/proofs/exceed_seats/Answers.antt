@@ -1,4 +1,4 @@
-use Rattle.std.proofs.Common.{arith, rules, ltb-true}
+use Rattle.std.proofs.Common.{arith, ltb-true}
 use Rattle.std.proofs.lemmas.Bool.Decides.{nat_tests}
 use Rattle.ballots.proofs.Quorum.{winners}
 use Rattle.ballots.proofs.exceed_seats.Goals as goal

@@ -1,5 +1,5 @@
-use Rattle.std.proofs.Common.{◌^◌, ◌<◌, ◌≤◌, refl, arith}
-use lib.Count.{ones, ones-le}
+use Rattle.std.proofs.Common.{◌^◌, ◌<◌, refl, arith}
+use lib.Count.{ones-le}
 use Rattle.kept.proofs.past_seals.Goals as goal
 
 pub overflow_cast-result : goal.overflow_cast-result

@@ -1,4 +1,4 @@
-use Rattle.std.proofs.Common.{◌≡◌, ap, ◌∙◌}
+use Rattle.std.proofs.Common.{ap, ◌∙◌}
 use Rattle.schemes.specs.Sip.{round, absorb, into0}
 use Rattle.schemes.proofs.sip.absorbing.Goals as goal
 

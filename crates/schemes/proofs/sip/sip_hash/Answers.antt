@@ -1,4 +1,4 @@
-use Rattle.std.proofs.Common.{refl, add-one, rules}
+use Rattle.std.proofs.Common.{add-one, rules}
 use Rattle.schemes.specs.Sip.{absorbed}
 use Rattle.schemes.proofs.sip.sip_hash.Goals as goal
 

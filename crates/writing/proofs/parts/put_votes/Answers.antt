@@ -1,6 +1,5 @@
-use Rattle.std.proofs.Common.{◌≡◌, ap, ◌∙◌, arith}
+use Rattle.std.proofs.Common.{arith}
 use Rattle.std.proofs.lemmas.List.{take_all}
-use Rattle.letters.specs.Bytes.{row_bytes}
 use Rattle.writing.proofs.Puts.{put_none, put_put}
 use Rattle.writing.proofs.Rows.{votes_none, votes_more}
 use Rattle.writing.proofs.parts.put_votes.Goals as goal

@@ -1,4 +1,4 @@
-use Rattle.std.proofs.Common.{◌≡◌, ◌<◌, ◌≤◌, length, Err, ap, ◌∙◌, arith}
+use Rattle.std.proofs.Common.{◌<◌, ◌≤◌, length, Err, ap, ◌∙◌, arith}
 use Rattle.letters.specs.Statements.{statement_bytes}
 use Rattle.writing.proofs.Puts.{put_written}
 use Rattle.writing.proofs.Room.{answer_room, answer_none, buffer_room, buffer_none, statement_length}

@@ -1,4 +1,4 @@
-use Rattle.std.proofs.Common.{◌≡◌, ◌<◌, ◌≤◌, ◌++◌, length, Ok, Err, ap, ◌∙◌, arith}
+use Rattle.std.proofs.Common.{◌<◌, ◌≤◌, ◌++◌, length, Ok, Err, ap, ◌∙◌, arith}
 use Rattle.letters.specs.Layout.{layout}
 use Rattle.writing.proofs.Puts.{put_written, put_front}
 use Rattle.writing.proofs.Room.{answer_room, answer_none, buffer_room, buffer_none}

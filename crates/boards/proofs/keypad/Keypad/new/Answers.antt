@@ -1,4 +1,4 @@
-use Rattle.std.proofs.Common.{◌≡◌, ◌+◌, true, false, [], ◌∷◌, ◌++◌, get_or, take, set, ap, ◌∙◌, rules}
+use Rattle.std.proofs.Common.{◌≡◌, true, false, [], ◌∷◌, ◌++◌, get_or, take, ap, ◌∙◌, rules}
 use Rattle.terms.specs.Numbers.{is_key, key}
 use Rattle.std.proofs.lemmas.List.{take_more_set}
 use Rattle.boards.specs.Boards.{each, idle}

@@ -1,4 +1,4 @@
-use Rattle.std.proofs.Common.{refl, rules}
+use Rattle.std.proofs.Common.{rules}
 use Rattle.letters.specs.Sorts.{seal}
 use Rattle.locks.proofs.lock.Lock.decline.Goals as goal
 

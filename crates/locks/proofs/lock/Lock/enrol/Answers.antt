@@ -1,4 +1,4 @@
-use Rattle.std.proofs.Common.{Some, refl, arith, rules}
+use Rattle.std.proofs.Common.{arith, rules}
 use Rattle.letters.specs.Sorts.{seal}
 use Rattle.locks.specs.Rules.{may_apply}
 use Rattle.locks.proofs.Small.{enrol_small, passed}

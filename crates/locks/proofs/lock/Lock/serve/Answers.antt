@@ -1,4 +1,4 @@
-use Rattle.std.proofs.Common.{◌≡◌, sym, refl, ap, ◌∙◌, arith, rules}
+use Rattle.std.proofs.Common.{arith, rules}
 use Rattle.letters.specs.Sorts.{seal}
 use Rattle.locks.specs.Letters.{letter_rule}
 use Rattle.locks.proofs.Goes.{goes_served, goes_refused, board_roomed}

@@ -1,5 +1,4 @@
-use Rattle.std.proofs.Common.{◌≡◌, sym, ap, ◌∙◌}
-use Rattle.letters.specs.declared.bodies.Body.{Body}
+use Rattle.std.proofs.Common.{sym, ap, ◌∙◌}
 use Rattle.locks.specs.Letters.{body_rule}
 use Rattle.locks.specs.Rules.{sends, lock_after, board_after}
 use Rattle.locks.proofs.lock.Lock.take_body.Goals as goal

@@ -2,7 +2,7 @@ use Rattle.std.proofs.Common.{◌≡◌, ℕ, ◌≤◌, List, [], length, sym, 
 use Rattle.std.proofs.lemmas.List.{get_or_past}
 use Rattle.letters.specs.Bytes.{eight_at}
 use Rattle.letters.specs.Sorts.{seal}
-use Rattle.schemes.specs.Kinds.{row_for, digest_seal}
+use Rattle.schemes.specs.Kinds.{row_for}
 use Rattle.schemes.specs.Rows.{row_of}
 use Rattle.schemes.specs.Sip.{sip_hash}
 use Rattle.schemes.proofs.keys.DigestSeals.seal_of.Goals as goal

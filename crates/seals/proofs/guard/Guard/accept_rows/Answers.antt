@@ -1,4 +1,4 @@
-use Rattle.std.proofs.Common.{◌≡◌, ◌+◌, ◌-◌, sym, ap, ◌∙◌, arith, rules}
+use Rattle.std.proofs.Common.{◌-◌, arith, rules}
 use Rattle.seals.proofs.Accepts.{accept_row, accept_no_row}
 use Rattle.seals.proofs.guard.Guard.accept_rows.Goals as goal
 
