@@ -3,12 +3,12 @@
 # agree with the textbook, and how do their times compare? Both are compiled at -O3.
 set -euo pipefail
 cd "$(dirname "$0")/.."
-home=${RATTLE_HOME:-$(dirname "$(dirname "$(readlink -f "$(command -v rt)")")")}
-mkdir -p target
-rt staticlib exports >target/staticlib.log 2>&1 || {
+mkdir -p target/staticlib
+(cd crates/exports_c && rt lib) >target/staticlib.log 2>&1 || {
     cat target/staticlib.log >&2
     exit 1
 }
+cp crates/exports_c/out/libexports_c.a target/staticlib/libexports.a
 cargo rustc --offline --quiet --release --manifest-path bench/Cargo.toml --target-dir target/bench -- \
-    -C link-arg="$PWD/target/staticlib/libexports.a" -C link-arg="$home/lib/librattle_c.a"
+    -C link-arg="$PWD/target/staticlib/libexports.a"
 target/bench/release/bench
