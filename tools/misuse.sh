@@ -1,22 +1,27 @@
 #!/usr/bin/env bash
 # Two misuses that the compiler itself refuses, before any proof: a letter that was not
 # opened given to a rule, and an opened letter used twice. The right use is accepted.
-# Only the front end runs, over the sources: nothing is proved and nothing is left behind.
+# The libraries are copied into a folder of its own, where the bodies are tried: nothing is
+# proved, and nothing is left behind.
 set -euo pipefail
 cd "$(dirname "$0")/.."
-home=${RATTLE_HOME:-$(dirname "$(dirname "$(readlink -f "$(command -v rt)")")")}
 probe=$(mktemp -d)
 trap 'rm -rf "$probe"' EXIT
 
-libraries=()
-for name in terms letters reading kept writing schemes seals; do
-    libraries+=(--lib "$name=crates/$name/src/lib.rt")
+libraries=(terms letters reading kept writing schemes seals)
+for name in "${libraries[@]}"; do
+    mkdir -p "$probe/crates/$name"
+    tar -c -C "crates/$name" --exclude=out --exclude=must-fail . | tar -x -C "$probe/crates/$name"
+    grep -E "^$name:" crates.txt >>"$probe/crates.txt"
 done
+echo "misuse: ${libraries[*]}" >>"$probe/crates.txt"
+mkdir -p "$probe/crates/misuse/src"
 
 # A rule takes an opened letter; `hand_in` has the body that is tried.
-try() {
-    mkdir -p "$probe/$1"
-    cat >"$probe/$1/main.rt" <<END
+try() { # BODY
+    cat >"$probe/crates/misuse/src/main.rt" <<END
+#![tactic(auto)]
+
 use letters::bodies::Letter;
 use reading::parts::Grounds;
 use reading::parts::Part;
@@ -37,20 +42,18 @@ fn hand_in<'a, S: Scheme>(
     bytes: &'a [u8],
     scratch: &mut [u8],
 ) -> Result<Letter<Part<'a>, Grounds<'a>>, Refusal> {
-$2
+$1
 }
 
 fn main() {}
 END
-    "$home/bin/rattle-print-mir" "$probe/$1/main.rt" --crate-name "$1" \
-        --extern "std=$home/rlib/std.rlib" -L "dependency=$home/rlib" \
-        "${libraries[@]}" >/dev/null 2>"$probe/$1/errors"
+    (cd "$probe/crates/misuse" && rt try) >"$probe/errors" 2>&1
 }
 
 accepted() { # NAME BODY
-    if ! try "$1" "$2"; then
+    if ! try "$2"; then
         echo "misuse: $1 should be accepted:" >&2
-        cat "$probe/$1/errors" >&2
+        cat "$probe/errors" >&2
         exit 1
     fi
     echo "misuse: $1 is accepted"
@@ -59,15 +62,15 @@ accepted() { # NAME BODY
 # Refused with the one error that is named, at the line of the body that holds the text.
 refused() { # NAME ERROR TEXT BODY
     local line
-    if try "$1" "$4"; then
+    if try "$4"; then
         echo "misuse: $1 should be refused" >&2
         exit 1
     fi
-    line=$(grep -nF -- "$3" "$probe/$1/main.rt" | cut -d: -f1)
-    if [ "$(grep -c 'error\[' "$probe/$1/errors")" != 1 ] ||
-        ! grep -q "main.rt:$line:[0-9]*: error\[$2\]" "$probe/$1/errors"; then
+    line=$(grep -nF -- "$3" "$probe/crates/misuse/src/main.rt" | cut -d: -f1)
+    if [ "$(grep -c 'error\[' "$probe/errors")" != 1 ] ||
+        ! grep -q "main.rt:$line:[0-9]*: error\[$2\]" "$probe/errors"; then
         echo "misuse: $1 should be refused with $2 at line $line, and not so:" >&2
-        cat "$probe/$1/errors" >&2
+        cat "$probe/errors" >&2
         exit 1
     fi
     echo "misuse: $1 is refused ($2)"
