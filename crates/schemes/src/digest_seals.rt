@@ -44,7 +44,7 @@ impl<'k> Scheme for DigestSeals<'k> {
     }
 
     fn seal(&self, party: Party, statement: &[u8]) -> Seal
-        ensures statement_value { is_seal result (digest_seal self.now.keys.now party statement.now) ≡ true }
+        ensures accepted { is_seal result (digest_seal self.now.keys.now party statement.now) ≡ true }
         ensures value { result ≡ digest_seal self.now.keys.now party statement.now }
     {
         self.seal_of(party, statement)

@@ -66,7 +66,7 @@ impl<'k> Scheme for SheetSeals<'k> {
     }
 
     fn seal(&self, party: Party, statement: &[u8]) -> Seal
-        ensures statement_value { is_seal result (sheet_seal self.now.sheets.now party statement.now) ≡ true }
+        ensures accepted { is_seal result (sheet_seal self.now.sheets.now party statement.now) ≡ true }
         ensures value { result ≡ sheet_seal self.now.sheets.now party statement.now }
     {
         self.seal_of(party, statement)
