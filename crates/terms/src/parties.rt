@@ -4,11 +4,11 @@ ghost use Rattle.terms.specs.Sizes.{sized, vault_of, seat_count, quorum_of};
 ghost use Rattle.terms.specs.Parties.{party_number, seat_in, place_in, party_in, leader_of};
 
 use crate::numbers::{Change, KeyNumber, Place, Seat, View};
-use crate::refusals::{CallCause, Cause, Refusal};
+use crate::refusals::{Refusal, set_up};
 use crate::sizes::Sizes;
 
 // A controller at its seat, a lock at its place, or the office that orders a change.
-#[derive(Clone, Copy, PartialEq, Eq)]
+#[derive(Clone, Copy, Debug, PartialEq, Eq)]
 pub enum Party {
     Controller(Seat),
     Lock(Place),
@@ -16,7 +16,7 @@ pub enum Party {
 }
 
 // What a change comes to: every door keeps its number, or all take this one.
-#[derive(Clone, Copy, PartialEq, Eq)]
+#[derive(Clone, Copy, Debug, PartialEq, Eq)]
 pub enum Outcome {
     Keep,
     Number(KeyNumber),
@@ -40,10 +40,7 @@ impl Sizes {
         ensures { sized result ≡ vault_of faults locks }
     {
         if faults < 1 || faults > 5 || locks < 1 || locks > 8 {
-            return Err(Refusal {
-                cause: Cause::Call(CallCause::SetUp),
-                place: 0,
-            });
+            return Err(set_up());
         }
         Ok(Sizes {
             faults: faults as u8,
@@ -105,15 +102,9 @@ impl Sizes {
             return Some(Party::Office);
         }
         if n >= 32 {
-            return match self.place(n - 32) {
-                Some(place) => Some(Party::Lock(place)),
-                None => None,
-            };
+            return self.place(n - 32).map(Party::Lock);
         }
-        match self.seat(n) {
-            Some(seat) => Some(Party::Controller(seat)),
-            None => None,
-        }
+        self.seat(n).map(Party::Controller)
     }
 
     // The seat that leads a view of a change.

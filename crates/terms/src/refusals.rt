@@ -3,8 +3,11 @@ ghost use Rattle.std.specs.Prelude.{◌≡◌};
 ghost use Rattle.terms.specs.Refusals as Refusals;
 ghost use Rattle.terms.specs.Refusals.{number_of, layer_of, layer_number, form_sentence, seal_sentence, rule_sentence, call_sentence, sentence_of};
 
+use std::error::Error;
+use std::fmt;
+
 // A letter's bytes have not the form of a letter.
-#[derive(Clone, Copy, PartialEq, Eq)]
+#[derive(Clone, Copy, Debug, PartialEq, Eq)]
 pub enum FormCause {
     EndsInField,
     UnfitMap,
@@ -13,14 +16,14 @@ pub enum FormCause {
 }
 
 // A seal does not stand on its statement.
-#[derive(Clone, Copy, PartialEq, Eq)]
+#[derive(Clone, Copy, Debug, PartialEq, Eq)]
 pub enum SealCause {
     Sender,
     Inner,
 }
 
 // A unit's rules turn a letter or a call down.
-#[derive(Clone, Copy, PartialEq, Eq)]
+#[derive(Clone, Copy, Debug, PartialEq, Eq)]
 pub enum RuleCause {
     OtherChange,
     OtherUnit,
@@ -36,7 +39,7 @@ pub enum RuleCause {
 }
 
 // A call cannot be carried out on what it was given.
-#[derive(Clone, Copy, PartialEq, Eq)]
+#[derive(Clone, Copy, Debug, PartialEq, Eq)]
 pub enum CallCause {
     NumberOutOfRange,
     NoSuchUnit,
@@ -44,7 +47,7 @@ pub enum CallCause {
     SetUp,
 }
 
-#[derive(Clone, Copy, PartialEq, Eq)]
+#[derive(Clone, Copy, Debug, PartialEq, Eq)]
 pub enum Cause {
     Form(FormCause),
     Seal(SealCause),
@@ -53,7 +56,7 @@ pub enum Cause {
 }
 
 // What a call passes on its way, in this order inwards: its own arguments are layer 4.
-#[derive(Clone, Copy, PartialEq, Eq)]
+#[derive(Clone, Copy, Debug, PartialEq, Eq)]
 pub enum Layer {
     Form,
     Seals,
@@ -62,7 +65,7 @@ pub enum Layer {
 }
 
 // A cause, and the place that it points to: an offset, a count of seals, a party or 0.
-#[derive(Clone, Copy, PartialEq, Eq)]
+#[derive(Clone, Copy, Debug, PartialEq, Eq)]
 pub struct Refusal {
     pub cause: Cause,
     pub place: usize,
@@ -190,6 +193,14 @@ impl Cause {
         }
     }
 }
+
+impl fmt::Display for Cause {
+    fn fmt<W: fmt::Write>(&self, f: &mut fmt::Formatter<W>) -> fmt::Result {
+        f.write_str(self.sentence())
+    }
+}
+
+impl Error for Cause {}
 
 // A buffer is too small.
 pub fn no_room() -> Refusal
