@@ -2,7 +2,7 @@
 #![tactic(auto)]
 
 ghost use Rattle.std.specs.Prelude.{◌≡◌, ℕ, ◌+◌, ◌<◌, ◌≤◌, Bool, true, length, None, nat_lt, slice_index_or, slice_set};
-ghost use Rattle.ballots.specs.Counts.{count_agree};
+ghost use Rattle.ballots.specs.Counts.{votes_for, count_agree};
 ghost use Rattle.ballots.specs.Kinds.{always_agree, same_outcome, same_pair};
 ghost use Rattle.std.proofs.Common.{rules};
 
@@ -23,19 +23,21 @@ pub trait Ballot {
     ghost agrees_across: { (x y z : Self) → agree x y ≡ true → agree y z ≡ true → agree x z ≡ true };
 }
 
+// A ballot is there and agrees with one.
+fn votes_for<B: Ballot>(slot: &Option<B>, with: &B) -> bool
+    ensures { result ≡ votes_for B.agree with.now slot.now }
+{
+    match slot {
+        Some(ballot) => ballot.agrees(with),
+        None => false,
+    }
+}
+
 // How many of the ballots agree with one.
 pub fn tally<B: Ballot>(ballots: &[Option<B>], with: &B) -> usize
     ensures { result ≡ count_agree B.agree with.now ballots.now }
 {
-    let mut count: usize = 0;
-    for slot in ballots {
-        if let Some(ballot) = slot {
-            if ballot.agrees(with) {
-                count += 1;
-            }
-        }
-    }
-    count
+    ballots.iter().filter(|slot| votes_for(slot, with)).count()
 }
 
 // Whether two ballots have, together, more in agreement than there are seats; then they agree.
@@ -77,16 +79,12 @@ impl Ballot for Outcome {
     ghost agrees_across = { Prim.search rules };
 
     fn agrees(&self, other: &Outcome) -> bool {
-        match (self, other) {
-            (Outcome::Keep, Outcome::Keep) => true,
-            (Outcome::Number(a), Outcome::Number(b)) => a.value() == b.value(),
-            _ => false,
-        }
+        self == other
     }
 }
 
 // An outcome with the digest of its certificate: what an assent and a confirm stand for.
-#[derive(Clone, Copy)]
+#[derive(Clone, Copy, PartialEq, Eq)]
 pub struct Pair {
     pub outcome: Outcome,
     pub digest: Digest,
@@ -102,7 +100,7 @@ impl Ballot for Pair {
     ghost agrees_across = { Prim.search rules };
 
     fn agrees(&self, other: &Pair) -> bool {
-        self.digest.0 == other.digest.0 && self.outcome.agrees(&other.outcome)
+        self == other
     }
 }
 
@@ -110,15 +108,14 @@ impl Ballot for Pair {
 pub fn entry<T: Copy + Drop>(rows: &[Option<T>], at: u8) -> Option<T>
     ensures { result ≡ slice_index_or rows.now at None }
 {
-    let at = at as usize;
-    if at < rows.len() { rows[at] } else { None }
+    rows.get(usize::from(at)).copied().flatten()
 }
 
 // Puts an entry into its row; past the last row nothing changes.
 pub fn put<T: Copy + Drop>(rows: &mut [Option<T>], at: u8, value: Option<T>)
     ensures { rows.new ≡ slice_set rows.old at value }
 {
-    if (at as usize) < rows.len() {
-        rows[at as usize] = value;
+    if usize::from(at) < rows.len() {
+        rows[usize::from(at)] = value;
     }
 }
