@@ -7,3 +7,4 @@ pub mod Inner
 pub mod Senders
 pub mod Layout
 pub mod Ranges
+pub mod Retold

@@ -1,4 +1,6 @@
 // The letters, by kind.
+ghost use Rattle.letters.specs.Retold.{RetoldBy};
+
 use crate::sorts::{Answer, Digest, Seal, SeatSet};
 use terms::numbers::{Change, KeyNumber, Place, Seat, View};
 use terms::parties::Outcome;
@@ -56,6 +58,84 @@ pub enum Body<C, B> {
         view: View,
         basis: Option<B>,
     },
+}
+
+impl<C, B> Body<C, B> {
+    // The same letter, with another account of its certificate and its basis.
+    pub fn retold<C2, B2, F: FnOnce(C) -> C2, G: FnOnce(B) -> B2>(self, f: F, g: G) -> Body<C2, B2>
+        requires certificates { F.IsAlwaysCallable f }
+        requires bases { G.IsAlwaysCallable g }
+        ensures { RetoldBy (F.post f) (G.post g) self result }
+    {
+        match self {
+            Body::Enrol { sender } => Body::Enrol { sender },
+            Body::Receipt { sender, place } => Body::Receipt { sender, place },
+            Body::Order { number } => Body::Order { number },
+            Body::Summons {
+                sender,
+                number,
+                office_seal,
+            } => Body::Summons {
+                sender,
+                number,
+                office_seal,
+            },
+            Body::Vote {
+                sender,
+                number,
+                answer,
+            } => Body::Vote {
+                sender,
+                number,
+                answer,
+            },
+            Body::Proposal {
+                sender,
+                view,
+                outcome,
+                certificate,
+                movers,
+            } => Body::Proposal {
+                sender,
+                view,
+                outcome,
+                certificate: f(certificate),
+                movers,
+            },
+            Body::Assent {
+                sender,
+                view,
+                outcome,
+                digest,
+            } => Body::Assent {
+                sender,
+                view,
+                outcome,
+                digest,
+            },
+            Body::Confirm {
+                sender,
+                view,
+                outcome,
+                digest,
+            } => Body::Confirm {
+                sender,
+                view,
+                outcome,
+                digest,
+            },
+            Body::Result { sender, outcome } => Body::Result { sender, outcome },
+            Body::Move {
+                sender,
+                view,
+                basis,
+            } => Body::Move {
+                sender,
+                view,
+                basis: basis.map(g),
+            },
+        }
+    }
 }
 
 // What a move's statement tells of its basis.

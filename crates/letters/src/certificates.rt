@@ -1,6 +1,7 @@
 // What a controller keeps of orders, enrolments, votes and assents, each with its seal.
-ghost use Rattle.std.specs.Prelude.{◌≡◌, length, None, slice_index_or};
-ghost use Rattle.letters.specs.Certificates.{ready_vote, all_ready, some_enrolled, result_of};
+ghost use Rattle.std.specs.Prelude.{◌≡◌, is_some};
+ghost use Rattle.std.specs.List.{list_all, list_any, zip};
+ghost use Rattle.letters.specs.Certificates.{is_ready, row_ready, result_of};
 
 use crate::sorts::{Answer, Seal};
 use terms::numbers::{KeyNumber, View};
@@ -40,44 +41,39 @@ pub struct Basis {
     pub assents: [Option<Seal>; 16],
 }
 
-fn voted_ready(votes: &[Option<Vote>], p: usize) -> bool
-    ensures { result ≡ ready_vote (slice_index_or votes.now p None) }
+impl Vote {
+    fn is_ready(&self) -> bool
+        ensures { result ≡ is_ready self.now.answer }
+    {
+        self.answer == Answer::Ready
+    }
+}
+
+// A place is not enrolled, or has voted ready.
+fn row_ready(enrolment: Option<Seal>, vote: Option<Vote>) -> bool
+    ensures { result ≡ row_ready enrolment vote }
 {
-    if p >= votes.len() {
-        return false;
-    }
-    match votes[p] {
-        Some(vote) => vote.answer == Answer::Ready,
-        None => false,
-    }
+    enrolment.is_none() || vote.is_some_and(|vote| vote.is_ready())
 }
 
 fn all_ready(enrolled: &[Option<Seal>], votes: &[Option<Vote>]) -> bool
-    ensures { result ≡ all_ready enrolled.now votes.now (length enrolled.now) }
+    ensures { result ≡ list_all (λ p. row_ready p.0 p.1) (zip enrolled.now votes.now) }
 {
-    let mut ready = true;
-    for p in 0..enrolled.len() {
-        if enrolled[p].is_some() && !voted_ready(votes, p) {
-            ready = false;
-        }
-    }
-    ready
+    enrolled
+        .iter()
+        .zip(votes)
+        .all(|(enrolment, vote)| row_ready(*enrolment, *vote))
 }
 
 fn some_enrolled(enrolled: &[Option<Seal>]) -> bool
-    ensures { result ≡ some_enrolled enrolled.now (length enrolled.now) }
+    ensures { result ≡ list_any is_some enrolled.now }
 {
-    let mut some = false;
-    for p in 0..enrolled.len() {
-        if enrolled[p].is_some() {
-            some = true;
-        }
-    }
-    some
+    enrolled.iter().any(|enrolment| enrolment.is_some())
 }
 
 impl Certificate {
     // The ordered number, if some place is enrolled and all that are enrolled are ready; else keep.
+    #[tactic(auto, using(crate::proofs::Rows::some_of_all, crate::proofs::Rows::ready_of_all))]
     pub fn result(&self) -> Outcome
         ensures { result ≡ result_of self.now }
     {

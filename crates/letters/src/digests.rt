@@ -11,9 +11,9 @@ const PRIME: u64 = 1099511628211;
 pub fn digest_of(bytes: &[u8]) -> Digest
     ensures { result ≡ digest_of bytes.now }
 {
-    let mut hash = BASIS;
-    for byte in bytes {
-        hash = (hash ^ u64::from(*byte)).wrapping_mul(PRIME);
-    }
+    let hash = bytes.iter().fold(
+        BASIS,
+        |hash, byte| (hash ^ u64::from(*byte)).wrapping_mul(PRIME),
+    );
     Digest(hash)
 }

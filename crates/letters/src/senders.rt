@@ -10,15 +10,14 @@ pub fn sender_of<C, B>(body: &Body<C, B>) -> Party
     ensures { result ≡ sender_of body.now }
 {
     match body {
-        Body::Enrol { sender } => Party::Lock(*sender),
-        Body::Receipt { sender, .. } => Party::Controller(*sender),
+        Body::Enrol { sender } | Body::Vote { sender, .. } => Party::Lock(*sender),
         Body::Order { .. } => Party::Office,
         Body::Summons { sender, .. } => Party::Controller(*sender),
-        Body::Vote { sender, .. } => Party::Lock(*sender),
-        Body::Proposal { sender, .. } => Party::Controller(*sender),
-        Body::Assent { sender, .. } => Party::Controller(*sender),
-        Body::Confirm { sender, .. } => Party::Controller(*sender),
-        Body::Result { sender, .. } => Party::Controller(*sender),
-        Body::Move { sender, .. } => Party::Controller(*sender),
+        Body::Receipt { sender, .. }
+        | Body::Proposal { sender, .. }
+        | Body::Assent { sender, .. }
+        | Body::Confirm { sender, .. }
+        | Body::Result { sender, .. }
+        | Body::Move { sender, .. } => Party::Controller(*sender),
     }
 }

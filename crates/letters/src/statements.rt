@@ -29,7 +29,8 @@ pub struct Borne {
     pub seal: Seal,
 }
 
-fn outcome_number(outcome: Outcome) -> Option<KeyNumber>
+// The number of an outcome; keep has none.
+pub fn outcome_number(outcome: Outcome) -> Option<KeyNumber>
     ensures { result ≡ Statements.outcome_number outcome }
 {
     match outcome {
@@ -58,9 +59,10 @@ fn bare(kind: Kind, change: Change, sender: Party) -> Statement
 fn numbered(kind: Kind, change: Change, sender: Party, number: Option<KeyNumber>) -> Statement
     ensures { result ≡ Statements.numbered kind change sender number }
 {
-    let mut statement = bare(kind, change, sender);
-    statement.number = number;
-    statement
+    Statement {
+        number,
+        ..bare(kind, change, sender)
+    }
 }
 
 fn viewed(
@@ -73,38 +75,33 @@ fn viewed(
 ) -> Statement
     ensures { result ≡ Statements.viewed kind change (Party.Controller sender) view (Statements.outcome_number outcome) digest }
 {
-    let mut statement = numbered(
-        kind,
-        change,
-        Party::Controller(sender),
-        outcome_number(outcome),
-    );
-    statement.view = Some(view);
-    statement.digest = Some(digest);
-    statement
+    let number = outcome_number(outcome);
+    Statement {
+        view: Some(view),
+        digest: Some(digest),
+        ..numbered(kind, change, Party::Controller(sender), number)
+    }
 }
 
 fn of_move(change: Change, sender: Seat, view: View, basis: Option<Brief>) -> Statement
     ensures { result ≡ Statements.move_statement change sender view basis }
 {
     match basis {
-        None => {
-            let mut statement = bare(Kind::Move, change, Party::Controller(sender));
-            statement.view = Some(view);
-            statement
-        }
-        Some(brief) => {
-            let mut statement = viewed(
+        None => Statement {
+            view: Some(view),
+            ..bare(Kind::Move, change, Party::Controller(sender))
+        },
+        Some(brief) => Statement {
+            basis: Some(brief.view),
+            ..viewed(
                 Kind::Move,
                 change,
                 sender,
                 view,
                 brief.outcome,
                 brief.digest,
-            );
-            statement.basis = Some(brief.view);
-            statement
-        }
+            )
+        },
     }
 }
 
@@ -115,11 +112,10 @@ impl Statement {
     {
         match body {
             Body::Enrol { sender } => bare(Kind::Enrol, change, Party::Lock(sender)),
-            Body::Receipt { sender, place } => {
-                let mut statement = bare(Kind::Receipt, change, Party::Controller(sender));
-                statement.place = Some(place);
-                statement
-            }
+            Body::Receipt { sender, place } => Statement {
+                place: Some(place),
+                ..bare(Kind::Receipt, change, Party::Controller(sender))
+            },
             Body::Order { number } => numbered(Kind::Order, change, Party::Office, number),
             Body::Summons {
                 sender,
@@ -182,8 +178,9 @@ impl Statement {
     ) -> Statement
         ensures { result ≡ Statements.vote_statement change sender number answer }
     {
-        let mut statement = numbered(Kind::Vote, change, Party::Lock(sender), number);
-        statement.answer = Some(answer);
-        statement
+        Statement {
+            answer: Some(answer),
+            ..numbered(Kind::Vote, change, Party::Lock(sender), number)
+        }
     }
 }
