@@ -1,6 +1,8 @@
 -- The enums that stand for bytes of a letter, each tied to its byte once.
-use Rattle.std.specs.Prelude.{ℕ, ◌/◌, ◌%◌, ◌^◌, Bool, cond, ◌&&◌, Some, None, Option, ◌==◌, nat_lt}
+use Rattle.std.specs.Prelude.{ℕ, ◌/◌, ◌%◌, ◌^◌, Bool, cond, ◌&&◌, Some, None, Ok, Err, Option, Result, ◌==◌, nat_lt}
 use Rattle.terms.specs.declared.numbers.Seat.{Seat}
+use Rattle.terms.specs.declared.refusals.FormCause.{FormCause}
+use Rattle.terms.specs.declared.refusals.FormCause.TheVariants.{OutOfRange}
 use Rattle.letters.specs.declared.sorts.Seal.{Seal}
 use Rattle.letters.specs.declared.sorts.Digest.{Digest}
 use Rattle.letters.specs.declared.sorts.SeatSet.{SeatSet}
@@ -57,3 +59,8 @@ answer_number Refuse = 0
 
 abbrev pub answer_of : ℕ → Option Answer
 answer_of n = cond (n == 1) (Some Ready) (cond (n == 0) (Some Refuse) None)
+
+-- what a byte stands for; one that stands for nothing is out of range
+abbrev pub in_range : {A : Type 0} → Option A → Result A FormCause
+in_range (Some a) = Ok a
+in_range None = Err OutOfRange

@@ -1,8 +1,9 @@
 // Seals, digests, sets of seats, and the enums that stand for bytes of a letter.
 ghost use Rattle.std.specs.Prelude.{◌≡◌};
-ghost use Rattle.letters.specs.Sorts.{kind_number, kind_of, answer_number, answer_of, holds_seat};
+ghost use Rattle.letters.specs.Sorts.{kind_number, kind_of, answer_number, answer_of, in_range, holds_seat};
 
 use terms::numbers::Seat;
+use terms::refusals::FormCause;
 
 // What a party puts under a statement.
 #[derive(Clone, Copy, PartialEq, Eq)]
@@ -55,22 +56,27 @@ impl Kind {
             Kind::Move => 10,
         }
     }
+}
 
-    pub fn new(n: u8) -> Option<Kind>
-        ensures { result ≡ kind_of n }
-    {
+// A byte that is the number of no kind is out of range.
+impl TryFrom<u8> for Kind {
+    type Error = FormCause;
+
+    ghost try_from_gives = { λ n r. r ≡ in_range (kind_of n) };
+
+    fn try_from(n: u8) -> Result<Kind, FormCause> {
         match n {
-            1 => Some(Kind::Enrol),
-            2 => Some(Kind::Receipt),
-            3 => Some(Kind::Order),
-            4 => Some(Kind::Summons),
-            5 => Some(Kind::Vote),
-            6 => Some(Kind::Proposal),
-            7 => Some(Kind::Assent),
-            8 => Some(Kind::Confirm),
-            9 => Some(Kind::Result),
-            10 => Some(Kind::Move),
-            _ => None,
+            1 => Ok(Kind::Enrol),
+            2 => Ok(Kind::Receipt),
+            3 => Ok(Kind::Order),
+            4 => Ok(Kind::Summons),
+            5 => Ok(Kind::Vote),
+            6 => Ok(Kind::Proposal),
+            7 => Ok(Kind::Assent),
+            8 => Ok(Kind::Confirm),
+            9 => Ok(Kind::Result),
+            10 => Ok(Kind::Move),
+            _ => Err(FormCause::OutOfRange),
         }
     }
 }
@@ -84,14 +90,19 @@ impl Answer {
             Answer::Refuse => 0,
         }
     }
+}
 
-    pub fn new(n: u8) -> Option<Answer>
-        ensures { result ≡ answer_of n }
-    {
+// A byte that is the number of no answer is out of range.
+impl TryFrom<u8> for Answer {
+    type Error = FormCause;
+
+    ghost try_from_gives = { λ n r. r ≡ in_range (answer_of n) };
+
+    fn try_from(n: u8) -> Result<Answer, FormCause> {
         match n {
-            1 => Some(Answer::Ready),
-            0 => Some(Answer::Refuse),
-            _ => None,
+            1 => Ok(Answer::Ready),
+            0 => Ok(Answer::Refuse),
+            _ => Err(FormCause::OutOfRange),
         }
     }
 }
