@@ -4,7 +4,7 @@
 ghost use Rattle.std.specs.Prelude.{◌≡◌, ℕ, ◌+◌, ◌-◌, ◌*◌, ◌/◌, ◌%◌, ◌^◌, ◌<◌, ◌≤◌, List, length, count_ones, slice_index};
 ghost use Rattle.letters.specs.Bytes.{two_at, four_at, eight_at, row_at, after_row, rows_at};
 ghost use Rattle.kept.specs.Kept as Kept;
-ghost use Rattle.letters.specs.Bodies.{each_basis, retold};
+ghost use Rattle.letters.specs.Bodies.{retold};
 ghost use Rattle.reading.specs.Parts.{span, spans};
 
 use letters::bodies::Body;
@@ -16,7 +16,7 @@ use terms::numbers::{KeyNumber, View};
 fn byte_at(bytes: &[u8], at: usize) -> u8
     ensures { result ≡ slice_index bytes.now at }
 {
-    if at < bytes.len() { bytes[at] } else { 0 }
+    bytes.get(at).copied().unwrap_or(0)
 }
 
 fn two_at(bytes: &[u8], at: usize) -> u16
@@ -58,11 +58,7 @@ fn row_at(stands: bool, bytes: &[u8], at: usize) -> Option<Seal>
     requires { at < 1000 }
     ensures { result ≡ row_at stands bytes.now at }
 {
-    if stands {
-        Some(Seal(eight_at(bytes, at)))
-    } else {
-        None
-    }
+    stands.then(|| Seal(eight_at(bytes, at)))
 }
 
 // The rows of a map: a seal for each bit that stands, read one after the other.
@@ -72,8 +68,8 @@ fn read_rows(rows: &mut [Option<Seal>], map: u16, bytes: &[u8], from: usize)
 {
     let mut at = from;
     let mut left = map;
-    for k in 0..rows.len() {
-        rows[k] = row_at(left % 2 == 1, bytes, at);
+    for row in rows.iter_mut() {
+        *row = row_at(left % 2 == 1, bytes, at);
         at = after_row(left % 2 == 1, at);
         left /= 2;
     }
@@ -90,13 +86,8 @@ fn after_row(stands: bool, at: usize) -> usize
 fn vote_of(ready: bool, seal: Option<Seal>) -> Option<Vote>
     ensures { result ≡ Kept.vote_of ready seal }
 {
-    match seal {
-        None => None,
-        Some(seal) => Some(Vote {
-            answer: if ready { Answer::Ready } else { Answer::Refuse },
-            seal,
-        }),
-    }
+    let answer = if ready { Answer::Ready } else { Answer::Refuse };
+    seal.map(|seal| Vote { answer, seal })
 }
 
 // The votes: a seal for each place that voted, and a bit for each that is ready.
@@ -105,8 +96,8 @@ fn read_votes(votes: &mut [Option<Vote>], ready: u8, seals: &[Option<Seal>])
     ensures { votes.new ≡ Kept.votes_of ready seals.now }
 {
     let mut left = ready;
-    for k in 0..votes.len() {
-        votes[k] = vote_of(left % 2 == 1, seals[k]);
+    for (vote, seal) in votes.iter_mut().zip(seals) {
+        *vote = vote_of(left % 2 == 1, *seal);
         left /= 2;
     }
 }
@@ -179,85 +170,9 @@ pub fn basis_in(grounds: Grounds) -> Basis
     }
 }
 
-fn basis_if(grounds: Option<Grounds>) -> Option<Basis>
-    ensures { result ≡ each_basis Kept.basis_in (each_basis spans grounds.entry) }
-{
-    match grounds {
-        Some(grounds) => Some(basis_in(grounds)),
-        None => None,
-    }
-}
-
 // What a letter that was read says, with its certificate and its basis as values.
 pub fn keep(body: Body<Part, Grounds>) -> Body<Certificate, Basis>
     ensures { result ≡ Kept.kept_body (retold span spans body.entry) }
 {
-    match body {
-        Body::Enrol { sender } => Body::Enrol { sender },
-        Body::Receipt { sender, place } => Body::Receipt { sender, place },
-        Body::Order { number } => Body::Order { number },
-        Body::Summons {
-            sender,
-            number,
-            office_seal,
-        } => Body::Summons {
-            sender,
-            number,
-            office_seal,
-        },
-        Body::Vote {
-            sender,
-            number,
-            answer,
-        } => Body::Vote {
-            sender,
-            number,
-            answer,
-        },
-        Body::Proposal {
-            sender,
-            view,
-            outcome,
-            certificate,
-            movers,
-        } => Body::Proposal {
-            sender,
-            view,
-            outcome,
-            certificate: certificate_in(certificate),
-            movers,
-        },
-        Body::Assent {
-            sender,
-            view,
-            outcome,
-            digest,
-        } => Body::Assent {
-            sender,
-            view,
-            outcome,
-            digest,
-        },
-        Body::Confirm {
-            sender,
-            view,
-            outcome,
-            digest,
-        } => Body::Confirm {
-            sender,
-            view,
-            outcome,
-            digest,
-        },
-        Body::Result { sender, outcome } => Body::Result { sender, outcome },
-        Body::Move {
-            sender,
-            view,
-            basis,
-        } => Body::Move {
-            sender,
-            view,
-            basis: basis_if(basis),
-        },
-    }
+    body.retold(certificate_in, basis_in)
 }

@@ -4,6 +4,7 @@
 pub mod bodies;
 pub mod certificates;
 pub mod digests;
+pub mod maps;
 pub mod senders;
 pub mod sorts;
 pub mod statements;

@@ -1,6 +1,6 @@
 -- The fields of a letter. Each reader takes the bytes and an offset, and gives a value and the
 -- offset after it, or a refusal that points to the field.
-use Rattle.std.specs.Prelude.{ℕ, ◌+◌, ◌-◌, ◌*◌, ◌/◌, ◌^◌, Bool, true, false, cond, ◌&&◌, List, length, Some, None, Ok, Err, Option, Result, ◌==◌, count_ones, nat_le, nat_lt, slice_index}
+use Rattle.std.specs.Prelude.{ℕ, ◌+◌, ◌-◌, ◌*◌, ◌/◌, ◌^◌, Bool, true, false, cond, ◌&&◌, List, length, take, drop, Some, None, Ok, Err, Option, Result, ◌==◌, count_ones, nat_le, nat_lt, slice_index}
 use Rattle.terms.specs.declared.numbers.Change.{Change}
 use Rattle.terms.specs.declared.numbers.KeyNumber.{KeyNumber}
 use Rattle.terms.specs.declared.numbers.Place.{Place}
@@ -15,7 +15,7 @@ use Rattle.terms.specs.declared.refusals.FormCause.TheVariants.{EndsInField, Unf
 use Rattle.terms.specs.declared.refusals.Cause.TheVariants.{Form}
 use Rattle.terms.specs.declared.refusals.Refusal.{Refusal}
 use Rattle.terms.specs.declared.sizes.Sizes.{Sizes}
-use Rattle.terms.specs.Numbers.{change_of, key_of, view_of}
+use Rattle.terms.specs.Numbers.{change_of, key_of, view_of, within}
 use Rattle.terms.specs.Parties.{party_in, place_in}
 use Rattle.terms.specs.Sizes.{seat_count, quorum_of}
 use Rattle.letters.specs.declared.sorts.Answer.{Answer}
@@ -43,6 +43,13 @@ ranged None at = refuse OutOfRange at
 
 abbrev pub checked : Bool → ℕ → Result (Unit {0}) Refusal
 checked fits at = cond fits (Ok tt) (refuse OutOfRange at)
+
+-- the next n bytes, if the bytes reach so far
+abbrev pub next : ℕ → List ℕ → ℕ → Option (List ℕ)
+next n xs at = within (nat_le (at + n) (length xs)) (take n (drop at xs))
+
+abbrev pub taken : ℕ → List ℕ → ℕ → Read (List ℕ)
+taken n xs at = cond (nat_le (at + n) (length xs)) (Ok (take n (drop at xs), at + n)) (refuse EndsInField at)
 
 -- n bytes with the value v, where the bytes reach so far
 abbrev pub sized : ℕ → ℕ → List ℕ → ℕ → Read ℕ

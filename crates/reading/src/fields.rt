@@ -37,10 +37,7 @@ pub(crate) fn refusal(cause: FormCause, place: usize) -> Refusal
 pub(crate) fn ranged<T>(value: Option<T>, at: usize) -> Result<T, Refusal>
     ensures { result ≡ Fields.ranged value at }
 {
-    match value {
-        Some(value) => Ok(value),
-        None => Err(refusal(FormCause::OutOfRange, at)),
-    }
+    value.ok_or(refusal(FormCause::OutOfRange, at))
 }
 
 pub(crate) fn checked(fits: bool, at: usize) -> Result<(), Refusal>
@@ -54,68 +51,49 @@ pub(crate) fn checked(fits: bool, at: usize) -> Result<(), Refusal>
 }
 
 impl Reader<'_> {
-    fn reaches(&self, n: usize) -> bool
-        ensures { result ≡ nat_le (self.now.at + n) (length self.now.bytes.now) }
+    // The next N bytes, if the bytes reach so far.
+    fn next<const N: usize>(&self) -> Option<[u8; N]>
+        ensures { result ≡ Fields.next N self.now.bytes.now self.now.at }
     {
-        self.bytes.len() >= n && self.at <= self.bytes.len() - n
+        self.bytes.get(self.at..)?.first_chunk().copied()
+    }
+
+    fn take<const N: usize>(&mut self) -> Result<[u8; N], Refusal>
+        ensures { Reads (Fields.taken N) self.old self.new result }
+    {
+        let field = self.next().ok_or(refusal(FormCause::EndsInField, self.at))?;
+        self.at += N;
+        Ok(field)
     }
 
     pub(crate) fn take_byte(&mut self) -> Result<u8, Refusal>
         ensures { Reads Fields.byte self.old self.new result }
     {
-        let at = self.at;
-        if !self.reaches(1) {
-            return Err(refusal(FormCause::EndsInField, at));
-        }
-        self.at = at + 1;
-        Ok(self.bytes[at])
+        self.take().map(u8::from_le_bytes)
     }
 
     pub(crate) fn take_two(&mut self) -> Result<u16, Refusal>
         ensures { Reads Fields.two self.old self.new result }
     {
-        let at = self.at;
-        if !self.reaches(2) {
-            return Err(refusal(FormCause::EndsInField, at));
-        }
-        self.at = at + 2;
-        Ok(u16::from_le_bytes([self.bytes[at], self.bytes[at + 1]]))
+        self.take().map(u16::from_le_bytes)
     }
 
     fn take_four(&mut self) -> Result<u32, Refusal>
         ensures { Reads Fields.four self.old self.new result }
     {
-        let at = self.at;
-        if !self.reaches(4) {
-            return Err(refusal(FormCause::EndsInField, at));
-        }
-        self.at = at + 4;
-        Ok(u32::from_le_bytes([
-            self.bytes[at],
-            self.bytes[at + 1],
-            self.bytes[at + 2],
-            self.bytes[at + 3],
-        ]))
+        self.take().map(u32::from_le_bytes)
     }
 
     fn take_eight(&mut self) -> Result<u64, Refusal>
         ensures { Reads Fields.eight self.old self.new result }
     {
-        let at = self.at;
-        if !self.reaches(8) {
-            return Err(refusal(FormCause::EndsInField, at));
-        }
-        self.at = at + 8;
-        Ok(u64::from_le_bytes([
-            self.bytes[at],
-            self.bytes[at + 1],
-            self.bytes[at + 2],
-            self.bytes[at + 3],
-            self.bytes[at + 4],
-            self.bytes[at + 5],
-            self.bytes[at + 6],
-            self.bytes[at + 7],
-        ]))
+        self.take().map(u64::from_le_bytes)
+    }
+
+    fn reaches(&self, n: usize) -> bool
+        ensures { result ≡ nat_le (self.now.at + n) (length self.now.bytes.now) }
+    {
+        self.bytes.len() >= n && self.at <= self.bytes.len() - n
     }
 
     // So many seals, each a field of eight bytes.
@@ -153,7 +131,7 @@ impl Reader<'_> {
     {
         let at = self.at;
         let n = self.take_byte()?;
-        ranged(Kind::new(n), at)
+        Kind::try_from(n).map_err(|cause| refusal(cause, at))
     }
 
     pub(crate) fn take_change(&mut self) -> Result<Change, Refusal>
@@ -161,14 +139,14 @@ impl Reader<'_> {
     {
         let at = self.at;
         let n = self.take_byte()?;
-        ranged(Change::new(n as u32), at)
+        ranged(Change::new(u32::from(n)), at)
     }
 
     fn take_party(&mut self, sizes: Sizes) -> Result<Option<Party>, Refusal>
         ensures { Reads (Fields.party_field sizes) self.old self.new result }
     {
         let n = self.take_byte()?;
-        Ok(sizes.party(n as u32))
+        Ok(sizes.party(u32::from(n)))
     }
 
     pub(crate) fn take_lock(&mut self, sizes: Sizes) -> Result<Place, Refusal>
@@ -206,14 +184,13 @@ impl Reader<'_> {
     {
         let at = self.at;
         let n = self.take_byte()?;
-        ranged(sizes.place(n as u32), at)
+        ranged(sizes.place(u32::from(n)), at)
     }
 
     pub(crate) fn take_view(&mut self) -> Result<View, Refusal>
         ensures { Reads Fields.view_field self.old self.new result }
     {
-        let n = self.take_byte()?;
-        Ok(View::new(n))
+        self.take_byte().map(View::new)
     }
 
     pub(crate) fn take_number(&mut self) -> Result<KeyNumber, Refusal>
@@ -230,8 +207,7 @@ impl Reader<'_> {
         if !present {
             return Ok(None);
         }
-        let number = self.take_number()?;
-        Ok(Some(number))
+        self.take_number().map(Some)
     }
 
     pub(crate) fn take_outcome_if(&mut self, present: bool) -> Result<Outcome, Refusal>
@@ -240,8 +216,7 @@ impl Reader<'_> {
         if !present {
             return Ok(Outcome::Keep);
         }
-        let number = self.take_number()?;
-        Ok(Outcome::Number(number))
+        self.take_number().map(Outcome::Number)
     }
 
     pub(crate) fn take_answer(&mut self) -> Result<Answer, Refusal>
@@ -249,21 +224,19 @@ impl Reader<'_> {
     {
         let at = self.at;
         let n = self.take_byte()?;
-        ranged(Answer::new(n), at)
+        Answer::try_from(n).map_err(|cause| refusal(cause, at))
     }
 
     pub(crate) fn take_digest(&mut self) -> Result<Digest, Refusal>
         ensures { Reads Fields.digest_field self.old self.new result }
     {
-        let n = self.take_eight()?;
-        Ok(Digest(n))
+        self.take_eight().map(Digest)
     }
 
     pub(crate) fn take_seal(&mut self) -> Result<Seal, Refusal>
         ensures { Reads Fields.seal_field self.old self.new result }
     {
-        let n = self.take_eight()?;
-        Ok(Seal(n))
+        self.take_eight().map(Seal)
     }
 
     // A quorum of movers, or nobody where the field is absent.
@@ -276,7 +249,7 @@ impl Reader<'_> {
         let at = self.at;
         let n = self.take_two()?;
         checked(
-            n as u32 >> sizes.seats() == 0 && n.count_ones() == sizes.quorum() as u32,
+            u32::from(n) >> sizes.seats() == 0 && n.count_ones() == u32::from(sizes.quorum()),
             at,
         )?;
         Ok(SeatSet(n))

@@ -7,26 +7,33 @@ ghost use Rattle.reading.specs.Reads.{ReadsBody};
 use crate::fields::{Reader, bit_stands, checked, refusal};
 use crate::parts::{Grounds, Part};
 use letters::bodies::{Body, Letter};
+use letters::maps::{
+    ANSWER, BASIS, BASIS_BIT, CERTIFICATE, COMMON, DIGEST, MOVERS, MOVERS_BIT, NUMBER, NUMBER_BIT,
+    OFFICE_SEAL, PLACE, VIEW,
+};
 use letters::sorts::Kind;
 use terms::numbers::{Change, Seat, View};
 use terms::refusals::{FormCause, Refusal};
 use terms::sizes::Sizes;
+
+// What a letter says, with its certificate and its basis as parts of the bytes, or a refusal.
+type ReadBody<'a> = Result<Body<Part<'a>, Grounds<'a>>, Refusal>;
 
 // A map fits a kind if the kind's bits stand, and no others but those that may.
 fn fits(kind: Kind, map: u16) -> bool
     ensures { result ≡ Form.fits kind map }
 {
     match kind {
-        Kind::Enrol => map == 4103,
-        Kind::Receipt => map == 4111,
-        Kind::Order => map & 65503 == 4103,
-        Kind::Summons => map == 4391,
-        Kind::Vote => map == 4199,
-        Kind::Proposal => map & 63455 == 5143,
-        Kind::Assent => map & 65503 == 4247,
-        Kind::Confirm => map & 65503 == 4247,
-        Kind::Result => map & 65503 == 4103,
-        Kind::Move => map == 4119 || map & 65503 == 5655,
+        Kind::Enrol => map == COMMON,
+        Kind::Receipt => map == COMMON + PLACE,
+        Kind::Order | Kind::Result => map & !NUMBER == COMMON,
+        Kind::Summons => map == COMMON + NUMBER + OFFICE_SEAL,
+        Kind::Vote => map == COMMON + NUMBER + ANSWER,
+        Kind::Proposal => map & !(NUMBER + MOVERS) == COMMON + VIEW + CERTIFICATE,
+        Kind::Assent | Kind::Confirm => map & !NUMBER == COMMON + VIEW + DIGEST,
+        Kind::Move => {
+            map == COMMON + VIEW || map & !NUMBER == COMMON + VIEW + BASIS + CERTIFICATE
+        }
     }
 }
 
@@ -43,7 +50,7 @@ fn fit(kind: Kind, map: u16) -> Result<(), Refusal>
 fn leads(sizes: Sizes, change: Change, view: View, seat: Seat) -> bool
     ensures { result ≡ Form.leads sizes change view seat }
 {
-    seat.number() == sizes.leader(change, view).number()
+    seat == sizes.leader(change, view)
 }
 
 // What is judged of a proposal at its view: the sender leads it, and it names movers unless it is 0.
@@ -54,14 +61,14 @@ fn proposal_view_fits(sizes: Sizes, change: Change, view: View, seat: Seat, move
 }
 
 impl<'a> Reader<'a> {
-    fn take_enrol(&mut self, sizes: Sizes) -> Result<Body<Part<'a>, Grounds<'a>>, Refusal>
+    fn take_enrol(&mut self, sizes: Sizes) -> ReadBody<'a>
         ensures { ReadsBody (Form.enrol_body sizes) self.old self.new result }
     {
         let sender = self.take_lock(sizes)?;
         Ok(Body::Enrol { sender })
     }
 
-    fn take_receipt(&mut self, sizes: Sizes) -> Result<Body<Part<'a>, Grounds<'a>>, Refusal>
+    fn take_receipt(&mut self, sizes: Sizes) -> ReadBody<'a>
         ensures { ReadsBody (Form.receipt_body sizes) self.old self.new result }
     {
         let sender = self.take_controller(sizes)?;
@@ -69,15 +76,15 @@ impl<'a> Reader<'a> {
         Ok(Body::Receipt { sender, place })
     }
 
-    fn take_order(&mut self, sizes: Sizes, map: u16) -> Result<Body<Part<'a>, Grounds<'a>>, Refusal>
+    fn take_order(&mut self, sizes: Sizes, map: u16) -> ReadBody<'a>
         ensures { ReadsBody (Form.order_body sizes map) self.old self.new result }
     {
         self.take_office(sizes)?;
-        let number = self.take_number_if(bit_stands(map, 5))?;
+        let number = self.take_number_if(bit_stands(map, NUMBER_BIT))?;
         Ok(Body::Order { number })
     }
 
-    fn take_summons(&mut self, sizes: Sizes) -> Result<Body<Part<'a>, Grounds<'a>>, Refusal>
+    fn take_summons(&mut self, sizes: Sizes) -> ReadBody<'a>
         ensures { ReadsBody (Form.summons_body sizes) self.old self.new result }
     {
         let sender = self.take_controller(sizes)?;
@@ -90,7 +97,7 @@ impl<'a> Reader<'a> {
         })
     }
 
-    fn take_vote(&mut self, sizes: Sizes) -> Result<Body<Part<'a>, Grounds<'a>>, Refusal>
+    fn take_vote(&mut self, sizes: Sizes) -> ReadBody<'a>
         ensures { ReadsBody (Form.vote_body sizes) self.old self.new result }
     {
         let sender = self.take_lock(sizes)?;
@@ -103,20 +110,15 @@ impl<'a> Reader<'a> {
         })
     }
 
-    fn take_proposal(
-        &mut self,
-        sizes: Sizes,
-        change: Change,
-        map: u16,
-    ) -> Result<Body<Part<'a>, Grounds<'a>>, Refusal>
+    fn take_proposal(&mut self, sizes: Sizes, change: Change, map: u16) -> ReadBody<'a>
         ensures { ReadsBody (Form.proposal_body sizes change map) self.old self.new result }
     {
         let sender = self.take_controller(sizes)?;
         let at = self.at;
         let view = self.take_view()?;
-        let moved = bit_stands(map, 11);
+        let moved = bit_stands(map, MOVERS_BIT);
         checked(proposal_view_fits(sizes, change, view, sender, moved), at)?;
-        let outcome = self.take_outcome_if(bit_stands(map, 5))?;
+        let outcome = self.take_outcome_if(bit_stands(map, NUMBER_BIT))?;
         let certificate = self.take_certificate(sizes)?;
         let movers = self.take_movers_if(moved, sizes)?;
         Ok(Body::Proposal {
@@ -128,19 +130,14 @@ impl<'a> Reader<'a> {
         })
     }
 
-    fn take_assent(
-        &mut self,
-        sizes: Sizes,
-        change: Change,
-        map: u16,
-    ) -> Result<Body<Part<'a>, Grounds<'a>>, Refusal>
+    fn take_assent(&mut self, sizes: Sizes, change: Change, map: u16) -> ReadBody<'a>
         ensures { ReadsBody (Form.assent_body sizes change map) self.old self.new result }
     {
         let sender = self.take_controller(sizes)?;
         let at = self.at;
         let view = self.take_view()?;
         checked(!leads(sizes, change, view, sender), at)?;
-        let outcome = self.take_outcome_if(bit_stands(map, 5))?;
+        let outcome = self.take_outcome_if(bit_stands(map, NUMBER_BIT))?;
         let digest = self.take_digest()?;
         Ok(Body::Assent {
             sender,
@@ -150,16 +147,12 @@ impl<'a> Reader<'a> {
         })
     }
 
-    fn take_confirm(
-        &mut self,
-        sizes: Sizes,
-        map: u16,
-    ) -> Result<Body<Part<'a>, Grounds<'a>>, Refusal>
+    fn take_confirm(&mut self, sizes: Sizes, map: u16) -> ReadBody<'a>
         ensures { ReadsBody (Form.confirm_body sizes map) self.old self.new result }
     {
         let sender = self.take_controller(sizes)?;
         let view = self.take_view()?;
-        let outcome = self.take_outcome_if(bit_stands(map, 5))?;
+        let outcome = self.take_outcome_if(bit_stands(map, NUMBER_BIT))?;
         let digest = self.take_digest()?;
         Ok(Body::Confirm {
             sender,
@@ -169,24 +162,15 @@ impl<'a> Reader<'a> {
         })
     }
 
-    fn take_result(
-        &mut self,
-        sizes: Sizes,
-        map: u16,
-    ) -> Result<Body<Part<'a>, Grounds<'a>>, Refusal>
+    fn take_result(&mut self, sizes: Sizes, map: u16) -> ReadBody<'a>
         ensures { ReadsBody (Form.result_body sizes map) self.old self.new result }
     {
         let sender = self.take_controller(sizes)?;
-        let outcome = self.take_outcome_if(bit_stands(map, 5))?;
+        let outcome = self.take_outcome_if(bit_stands(map, NUMBER_BIT))?;
         Ok(Body::Result { sender, outcome })
     }
 
-    fn take_move(
-        &mut self,
-        sizes: Sizes,
-        change: Change,
-        map: u16,
-    ) -> Result<Body<Part<'a>, Grounds<'a>>, Refusal>
+    fn take_move(&mut self, sizes: Sizes, change: Change, map: u16) -> ReadBody<'a>
         ensures { ReadsBody (Form.move_body sizes change map) self.old self.new result }
     {
         let sender = self.take_controller(sizes)?;
@@ -194,8 +178,8 @@ impl<'a> Reader<'a> {
         let view = self.take_view()?;
         checked(view.number() != 0, at)?;
         let basis = self.take_grounds_if(
-            bit_stands(map, 9),
-            bit_stands(map, 5),
+            bit_stands(map, BASIS_BIT),
+            bit_stands(map, NUMBER_BIT),
             sizes,
             change,
             view,
@@ -207,13 +191,7 @@ impl<'a> Reader<'a> {
         })
     }
 
-    fn take_body(
-        &mut self,
-        sizes: Sizes,
-        change: Change,
-        map: u16,
-        kind: Kind,
-    ) -> Result<Body<Part<'a>, Grounds<'a>>, Refusal>
+    fn take_body(&mut self, sizes: Sizes, change: Change, map: u16, kind: Kind) -> ReadBody<'a>
         ensures { ReadsBody (Form.body_field sizes change map kind) self.old self.new result }
     {
         match kind {

@@ -1,5 +1,6 @@
 // The certificate and the basis: checked through, and handed on as parts of the bytes.
 ghost use Rattle.std.specs.Prelude.{◌≡◌, ℕ, ◌+◌, ◌-◌, ◌*◌, ◌/◌, ◌%◌, ◌^◌, ◌<◌, ◌≤◌, length};
+ghost use Rattle.reading.specs.Parts.{between, span};
 ghost use Rattle.reading.specs.Spans as Spans;
 ghost use Rattle.reading.specs.Reads.{Reads, ReadsSpan, ReadsGrounds};
 
@@ -17,7 +18,7 @@ impl<'a> Reader<'a> {
     {
         let at = self.at;
         let n = self.take_byte()?;
-        checked(n as u32 >> sizes.locks() == 0, at)?;
+        checked(u32::from(n) >> sizes.locks() == 0, at)?;
         Ok(n)
     }
 
@@ -60,7 +61,7 @@ impl<'a> Reader<'a> {
     {
         let at = self.at;
         let basis_view = self.take_view()?;
-        checked(basis_view.number() < view.number(), at)?;
+        checked(basis_view < view, at)?;
         Ok(basis_view)
     }
 
@@ -71,9 +72,9 @@ impl<'a> Reader<'a> {
         let at = self.at;
         let n = self.take_two()?;
         let leader = sizes.leader(change, view).number();
-        let fits = n as u32 >> sizes.seats() == 0
-            && n.count_ones() == 2 * sizes.faults() as u32
-            && !bit_stands(n, leader as u16);
+        let fits = u32::from(n) >> sizes.seats() == 0
+            && n.count_ones() == 2 * u32::from(sizes.faults())
+            && !bit_stands(n, u16::from(leader));
         checked(fits, at)?;
         Ok(n)
     }
@@ -84,7 +85,18 @@ impl<'a> Reader<'a> {
         let basis_view = self.take_basis_view(view)?;
         self.take_assenters(sizes, change, basis_view)?;
         self.take_seal()?;
-        self.take_seals(2 * sizes.faults() as u32)
+        self.take_seals(2 * u32::from(sizes.faults()))
+    }
+
+    // What was read since an offset.
+    fn part_from(&self, offset: usize) -> Part<'a>
+        requires { (offset ≤ self.now.at) × (self.now.at ≤ length self.now.bytes.now) }
+        ensures { span result ≡ between self.now.bytes.now offset self.now.at }
+    {
+        Part {
+            bytes: &self.bytes[offset..self.at],
+            offset,
+        }
     }
 
     pub(crate) fn take_certificate(&mut self, sizes: Sizes) -> Result<Part<'a>, Refusal>
@@ -92,10 +104,7 @@ impl<'a> Reader<'a> {
     {
         let offset = self.at;
         self.walk_certificate(sizes)?;
-        Ok(Part {
-            bytes: &self.bytes[offset..self.at],
-            offset,
-        })
+        Ok(self.part_from(offset))
     }
 
     fn take_basis(&mut self, sizes: Sizes, change: Change, view: View) -> Result<Part<'a>, Refusal>
@@ -103,10 +112,7 @@ impl<'a> Reader<'a> {
     {
         let offset = self.at;
         self.walk_basis(sizes, change, view)?;
-        Ok(Part {
-            bytes: &self.bytes[offset..self.at],
-            offset,
-        })
+        Ok(self.part_from(offset))
     }
 
     // The outcome, the basis and its certificate, or nothing of them.
