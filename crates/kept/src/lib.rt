@@ -19,6 +19,8 @@ fn byte_at(bytes: &[u8], at: usize) -> u8
     bytes.get(at).copied().unwrap_or(0)
 }
 
+// Two, four and eight bytes at an offset, in three functions: each byte past the end counts as 0, so that no
+// chunk of the bytes stands for them.
 fn two_at(bytes: &[u8], at: usize) -> u16
     requires { at < 1000 }
     ensures { result ≡ two_at bytes.now at }
@@ -96,8 +98,8 @@ fn read_votes(votes: &mut [Option<Vote>], ready: u8, seals: &[Option<Seal>])
     ensures { votes.new ≡ Kept.votes_of ready seals.now }
 {
     let mut left = ready;
-    for (vote, seal) in votes.iter_mut().zip(seals) {
-        *vote = vote_of(left % 2 == 1, *seal);
+    for (k, vote) in votes.iter_mut().enumerate() {
+        *vote = vote_of(left % 2 == 1, seals[k]);
         left /= 2;
     }
 }
