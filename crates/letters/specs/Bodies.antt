@@ -3,6 +3,8 @@ use Rattle.std.specs.Prelude.{Some, None, Option}
 use Rattle.terms.specs.declared.numbers.Change.{Change}
 use Rattle.letters.specs.declared.sorts.Seal.{Seal}
 use Rattle.letters.specs.declared.sorts.Digest.{Digest}
+use Rattle.letters.specs.declared.sorts.Kind.{Kind}
+use Rattle.letters.specs.declared.sorts.Kind.TheVariants as K
 use Rattle.letters.specs.declared.certificates.Certificate.{Certificate}
 use Rattle.letters.specs.declared.certificates.Basis.{Basis}
 use Rattle.letters.specs.declared.bodies.Brief.{Brief}
@@ -35,6 +37,19 @@ brief_of b = record { view = b.view; outcome = b.outcome; digest = certificate_d
 -- a letter as its statement tells it
 abbrev pub in_brief : Body Certificate Basis → Body Digest Brief
 in_brief b = retold certificate_digest brief_of b
+
+-- which kind of letter it is
+abbrev pub kind_of_body : {C B : Type 0} → Body C B → Kind
+kind_of_body (Enrol p) = K.Enrol
+kind_of_body (Receipt s p) = K.Receipt
+kind_of_body (Order n) = K.Order
+kind_of_body (Summons s n z) = K.Summons
+kind_of_body (Vote p n a) = K.Vote
+kind_of_body (Proposal s v x c m) = K.Proposal
+kind_of_body (Assent s v x d) = K.Assent
+kind_of_body (Confirm s v x d) = K.Confirm
+kind_of_body (Result s x) = K.Result
+kind_of_body (Move s v b) = K.Move
 
 abbrev pub letter : {C B : Type 0} → Change → Body C B → Seal → Letter C B
 letter t b z = record { change = t; body = b; seal = z }

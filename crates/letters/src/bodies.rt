@@ -1,7 +1,9 @@
 // The letters, by kind.
+ghost use Rattle.std.specs.Prelude.{◌≡◌};
+ghost use Rattle.letters.specs.Bodies.{kind_of_body};
 ghost use Rattle.letters.specs.Retold.{RetoldBy};
 
-use crate::sorts::{Answer, Digest, Seal, SeatSet};
+use crate::sorts::{Answer, Digest, Kind, Seal, SeatSet};
 use terms::numbers::{Change, KeyNumber, Place, Seat, View};
 use terms::parties::Outcome;
 
@@ -61,6 +63,23 @@ pub enum Body<C, B> {
 }
 
 impl<C, B> Body<C, B> {
+    pub fn kind(&self) -> Kind
+        ensures { result ≡ kind_of_body self.now }
+    {
+        match self {
+            Body::Enrol { .. } => Kind::Enrol,
+            Body::Receipt { .. } => Kind::Receipt,
+            Body::Order { .. } => Kind::Order,
+            Body::Summons { .. } => Kind::Summons,
+            Body::Vote { .. } => Kind::Vote,
+            Body::Proposal { .. } => Kind::Proposal,
+            Body::Assent { .. } => Kind::Assent,
+            Body::Confirm { .. } => Kind::Confirm,
+            Body::Result { .. } => Kind::Result,
+            Body::Move { .. } => Kind::Move,
+        }
+    }
+
     // The same letter, with another account of its certificate and its basis.
     pub fn retold<C2, B2, F: FnOnce(C) -> C2, G: FnOnce(B) -> B2>(self, f: F, g: G) -> Body<C2, B2>
         requires certificates { F.IsAlwaysCallable f }

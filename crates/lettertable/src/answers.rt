@@ -1,44 +1,44 @@
 // What reading a letter comes to.
-use letters::bodies::Body;
-use reading::parts::{Grounds, Part};
+use letters::sorts::Kind;
 use reading::read;
 use std::fmt;
+use terms::refusals::Refusal;
 use terms::sizes::Sizes;
 
-// The kind of a letter that was read, or the number and the place of its refusal.
+// The number and the place of a refusal.
 #[derive(Clone, Copy, PartialEq, Eq)]
-pub enum Answer {
-    Good(u8),
-    Refused(u8, usize),
+pub struct Refused {
+    pub number: u8,
+    pub place: usize,
 }
 
-impl fmt::Display for Answer {
-    fn fmt<W: fmt::Write>(&self, f: &mut fmt::Formatter<W>) -> fmt::Result {
-        match *self {
-            Answer::Good(kind) => write!(f, "ok {kind}"),
-            Answer::Refused(number, place) => write!(f, "refused {number} {place}"),
+impl From<Refusal> for Refused {
+    fn from(refusal: Refusal) -> Refused {
+        Refused {
+            number: refusal.cause.number(),
+            place: refusal.place,
         }
     }
 }
 
-fn kind_number(body: Body<Part, Grounds>) -> u8 {
-    match body {
-        Body::Enrol { .. } => 1,
-        Body::Receipt { .. } => 2,
-        Body::Order { .. } => 3,
-        Body::Summons { .. } => 4,
-        Body::Vote { .. } => 5,
-        Body::Proposal { .. } => 6,
-        Body::Assent { .. } => 7,
-        Body::Confirm { .. } => 8,
-        Body::Result { .. } => 9,
-        Body::Move { .. } => 10,
+// The kind of a letter that was read, or its refusal, as a line of the table tells it.
+#[derive(Clone, Copy, PartialEq, Eq)]
+pub struct Answer(pub Result<Kind, Refused>);
+
+impl fmt::Display for Answer {
+    fn fmt<W: fmt::Write>(&self, f: &mut fmt::Formatter<W>) -> fmt::Result {
+        match self.0 {
+            Ok(kind) => write!(f, "ok {}", kind.number()),
+            Err(refused) => write!(f, "refused {} {}", refused.number, refused.place),
+        }
     }
 }
 
+fn kind_of(sizes: Sizes, bytes: &[u8]) -> Result<Kind, Refused> {
+    let letter = read(sizes, bytes)?;
+    Ok(letter.body.kind())
+}
+
 pub fn answer_to(sizes: Sizes, bytes: &[u8]) -> Answer {
-    match read(sizes, bytes) {
-        Ok(letter) => Answer::Good(kind_number(letter.body)),
-        Err(refusal) => Answer::Refused(refusal.cause.number(), refusal.place),
-    }
+    Answer(kind_of(sizes, bytes))
 }

@@ -1,9 +1,11 @@
 // The lines of the table: F, L, the bytes of a letter in hexadecimal, and the answer.
 ghost use Rattle.std.specs.Prelude.{◌<◌, Ok, Err};
 
-use crate::answers::{Answer, answer_to};
+use crate::answers::{Answer, Refused, answer_to};
 use anyhow::{Context, anyhow};
+use letters::sorts::Kind;
 use std::alloc::Global;
+use terms::refusals::Cause;
 use terms::sizes::Sizes;
 
 #[derive(Drop)]
@@ -42,18 +44,16 @@ fn bytes_of(heap: Global, text: &str) -> anyhow::Result<Vec<u8>> {
     Ok(bytes)
 }
 
-fn sizes_of(faults: u32, locks: u32) -> anyhow::Result<Sizes> {
-    match Sizes::new(faults, locks) {
-        Ok(sizes) => Ok(sizes),
-        Err(refusal) => Err(anyhow!(refusal.cause.sentence())),
-    }
-}
-
 fn expected_of(word: &str, first: &str, second: Option<&str>) -> anyhow::Result<Answer> {
+    let number = first.parse::<u8>()?;
     match second {
-        None if word == "ok" => Ok(Answer::Good(first.parse::<u8>()?)),
+        None if word == "ok" => {
+            let kind = Kind::try_from(number).map_err(Cause::Form)?;
+            Ok(Answer(Ok(kind)))
+        }
         Some(place) if word == "refused" => {
-            Ok(Answer::Refused(first.parse::<u8>()?, place.parse::<usize>()?))
+            let place = place.parse::<usize>()?;
+            Ok(Answer(Err(Refused { number, place })))
         }
         _ => Err(anyhow!("not an answer")),
     }
@@ -68,7 +68,9 @@ impl Line {
         let answer = words.next().context("no answer")?;
         let first = words.next().context("no number")?;
         let expected = expected_of(answer, first, words.next())?;
-        let sizes = sizes_of(faults.parse::<u32>()?, locks.parse::<u32>()?)?;
+        let sizes = Sizes::new(faults.parse::<u32>()?, locks.parse::<u32>()?).map_err(
+            |refusal| refusal.cause,
+        )?;
         Ok(Line {
             sizes,
             bytes: bytes_of(heap, bytes)?,
