@@ -47,6 +47,8 @@ fn stage_everywhere<B: Board>(rt: &impl Print, board: &mut B, number: KeyNumber)
     Ok(all)
 }
 
+// Taking over and dropping go from place to place in two loops and not in one over a step: what the step does to
+// the lent board would have to be passed in beside it.
 fn take_over_at<B: Board>(rt: &impl Print, board: &mut B, place: Place) -> io::Result<()>
     ensures { B.meaning board.new ≡ after_take_over (B.meaning board.old) place }
 {

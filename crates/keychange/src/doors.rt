@@ -10,10 +10,7 @@ pub struct Digits(pub Option<KeyNumber>);
 impl fmt::Display for Digits {
     fn fmt<W: fmt::Write>(&self, f: &mut fmt::Formatter<W>) -> fmt::Result {
         match self.0 {
-            Some(number) => {
-                let value = number.value();
-                write!(f, "{value:06}")
-            }
+            Some(number) => write!(f, "{:06}", number.value()),
             None => write!(f, "------"),
         }
     }

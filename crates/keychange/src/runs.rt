@@ -1,7 +1,7 @@
 // Changes on a keypad board and on a wheel board, some that go through and some that do not.
 use crate::change::change_to;
 use crate::refused::or_sentence;
-use anyhow::anyhow;
+use anyhow::Context;
 use boards::board::Board;
 use boards::keypad::Keypad;
 use boards::wheel_board::WheelBoard;
@@ -9,10 +9,7 @@ use boards::wheel_door::Wheels;
 use terms::numbers::{KeyNumber, Place};
 
 fn key(number: u32) -> anyhow::Result<KeyNumber> {
-    match KeyNumber::new(number) {
-        Some(number) => Ok(number),
-        None => Err(anyhow!("not a key number")),
-    }
+    KeyNumber::new(number).context("not a key number")
 }
 
 pub fn keypad_goes_through(rt: &impl Print) -> anyhow::Result<()> {

@@ -1,7 +1,7 @@
 // The letters that begin a change, under their seals: sent, opened, and damaged on the way.
 use crate::refused::{or_sentence, print_refusal};
 use crate::spelled;
-use anyhow::anyhow;
+use anyhow::Context;
 use letters::bodies::Body;
 use letters::certificates::{Basis, Certificate};
 use schemes::keys::SheetSeals;
@@ -18,9 +18,7 @@ fn send_in_7<S: Scheme>(
     body: Body<Certificate, Basis>,
     out: &mut [u8],
 ) -> anyhow::Result<()> {
-    let Some(change) = Change::new(7) else {
-        return Err(anyhow!("not a change"));
-    };
+    let change = Change::new(7).context("not a change")?;
     let mut scratch = [0; 24];
     let sent = or_sentence(send(scheme, change, body, &mut scratch, out))?;
     let length = sent.length;
@@ -44,9 +42,7 @@ fn open_and_tell<S: Scheme>(rt: &impl Print, scheme: &S, letter: &[u8]) -> anyho
 
 fn enrolment<S: Scheme>(rt: &impl Print, scheme: &S) -> anyhow::Result<()> {
     println!(rt; "Lock 2 enrols in change 7. Sealed under a sheet of ones its letter reads so.")?;
-    let Some(sender) = Place::new(2) else {
-        return Err(anyhow!("not a place"));
-    };
+    let sender = Place::new(2).context("not a place")?;
     let mut letter = [0; 13];
     send_in_7(rt, scheme, Body::Enrol { sender }, &mut letter)?;
     spelled::enrolment(rt, &letter)?;
@@ -70,15 +66,13 @@ fn bit_turned<S: Scheme>(rt: &impl Print, scheme: &S, order: [u8; 17]) -> anyhow
         "On its way the lowest bit of the order's number is turned, so that it reads 123,457."
     )?;
     let mut letter = order;
-    letter[5] = letter[5] ^ 1;
+    letter[5] ^= 1;
     open_and_tell(rt, scheme, &letter)
 }
 
 fn cut_short<S: Scheme>(rt: &impl Print, scheme: &S, order: &[u8]) -> anyhow::Result<()> {
     println!(rt; "On its way the order loses its last byte.")?;
-    let Some((_, letter)) = order.split_last() else {
-        return Err(anyhow!("no last byte"));
-    };
+    let (_, letter) = order.split_last().context("no last byte")?;
     open_and_tell(rt, scheme, letter)
 }
 
