@@ -10,26 +10,44 @@ pub record Filled {A : Type 0} (fit : A → Bool) (make : A → Door) (xs : List
   pub left : each fit (drop i xs) ≡ each fit xs
   pub so_far : doors ≡ map make (take i xs)
 
-each_more :
-    {A : Type 0} (fit : A → Bool) (xs : List A) (i : ℕ) (d : A) (ok : Bool) → i < length xs → fit (get_or xs i d) ≡ ok →
-    each fit (drop i xs) ≡ ok && each fit (drop (i + 1) xs)
-unfolding each
-each_more fit xs i d ok h e = at_drop_more (each fit) xs i d h ∙ ap (λ b. b && each fit (drop (i + 1) xs)) e
+-- what is given back if a thing is fit, and only then
+within_fit : {A : Type 0} (ok : Bool) (x y : A) → Some x ≡ within ok y → ok ≡ true
+within_fit true x y e = refl
+within_fit false x y e = cc
 
+within_same : {A : Type 0} (ok : Bool) (x y : A) → Some x ≡ within ok y → x ≡ y
+within_same true x y e = cc
+within_same false x y e = cc
+
+within_unfit : {A : Type 0} (ok : Bool) (y : A) → None ≡ within ok y → ok ≡ false
+within_unfit true y e = cc
+within_unfit false y e = refl
+
+each_more :
+    {A : Type 0} (fit : A → Bool) (xs : List A) (i : ℕ) (x : A) → i < length xs → x ≡ get_or xs i x →
+    each fit (drop i xs) ≡ fit x && each fit (drop (i + 1) xs)
+unfolding each
+each_more fit xs i x h is = at_drop_more (each fit) xs i x h ∙ ap (λ y. fit y && each fit (drop (i + 1) xs)) (sym is)
+
+-- the next entry x gave a door, which comes after the doors so far
 pub filled_more :
-    {A : Type 0} (fit : A → Bool) (make : A → Door) (xs : List A) (i : ℕ) (d : A) (doors more : List Door) →
-    Filled fit make xs i doors → i < length xs → fit (get_or xs i d) ≡ true → more ≡ doors ++ make (get_or xs i d) ∷ [] →
+    {A : Type 0} (fit : A → Bool) (make : A → Door) (xs : List A) (i : ℕ) (x : A) (doors : List Door) (door : Door) (more : List Door) →
+    Filled fit make xs i doors → i < length xs → x ≡ get_or xs i x → Some door ≡ within (fit x) (make x) → more ≡ doors ++ door ∷ [] →
     Filled fit make xs (i + 1) more
-filled_more fit make xs i d doors more f h ok e =
+filled_more fit make xs i x doors door more f h is given e =
+    let ok = within_fit (fit x) door (make x) given in
+    let same = within_same (fit x) door (make x) given in
     record {
-      left = sym (each_more fit xs i d true h ok) ∙ f.left;
-      so_far = e ∙ ap (λ ds. ds ++ make (get_or xs i d) ∷ []) f.so_far ∙ sym (map_more make xs i d h);
+      left = sym (each_more fit xs i x h is ∙ ap (λ b. b && each fit (drop (i + 1) xs)) ok) ∙ f.left;
+      so_far = e ∙ ap (λ d. doors ++ d ∷ []) (same ∙ ap make is) ∙ ap (λ ds. ds ++ make (get_or xs i x) ∷ []) f.so_far ∙ sym (map_more make xs i x h);
     }
 
+-- the next entry x gave none
 pub filled_unfit :
-    {A : Type 0} (fit : A → Bool) (make : A → Door) (xs : List A) (i : ℕ) (d : A) (doors : List Door) →
-    Filled fit make xs i doors → i < length xs → fit (get_or xs i d) ≡ false → each fit xs ≡ false
-filled_unfit fit make xs i d doors f h e = sym f.left ∙ each_more fit xs i d false h e
+    {A : Type 0} (fit : A → Bool) (make : A → Door) (xs : List A) (i : ℕ) (x : A) (doors : List Door) →
+    Filled fit make xs i doors → i < length xs → x ≡ get_or xs i x → None ≡ within (fit x) (make x) → each fit xs ≡ false
+filled_unfit fit make xs i x doors f h is given =
+    sym f.left ∙ each_more fit xs i x h is ∙ ap (λ b. b && each fit (drop (i + 1) xs)) (within_unfit (fit x) (make x) given)
 
 pub filled_fit :
     {A : Type 0} (fit : A → Bool) (make : A → Door) (xs : List A) (i : ℕ) (doors : List Door) →
@@ -41,16 +59,3 @@ pub filled_all :
     {A : Type 0} (fit : A → Bool) (make : A → Door) (xs : List A) (i : ℕ) (doors : List Door) →
     Filled fit make xs i doors → length xs ≤ i → doors ≡ map make xs
 filled_all fit make xs i doors f h = f.so_far ∙ ap (map make) (take_all i xs h)
-
--- what is given back if a thing is fit, and only then
-pub within_fit : {A : Type 0} (ok : Bool) (x y : A) → Some x ≡ within ok y → ok ≡ true
-within_fit true x y e = refl
-within_fit false x y e = cc
-
-pub within_same : {A : Type 0} (ok : Bool) (x y : A) → Some x ≡ within ok y → x ≡ y
-within_same true x y e = cc
-within_same false x y e = cc
-
-pub within_unfit : {A : Type 0} (ok : Bool) (y : A) → None ≡ within ok y → ok ≡ false
-within_unfit true y e = cc
-within_unfit false y e = refl

@@ -1,5 +1,5 @@
 -- The first doors of a fixed row.
-use Rattle.std.proofs.Common.{◌≡◌, ℕ, zero, suc, List, [], ◌∷◌, map, take, set, refl, ap, ◌∙◌}
+use Rattle.std.proofs.Common.{◌≡◌, ℕ, zero, suc, List, [], ◌∷◌, map, take, set, sym, refl, ap, ◌∙◌}
 use Rattle.std.proofs.lemmas.List.{map-set}
 
 -- a write into a row, seen in its first n
@@ -14,3 +14,9 @@ pub shown_of_set :
     {X Y : Type 0} (f : X → Y) (n : ℕ) (xs : List X) (i : ℕ) (y : X) →
     map f (take n (set xs i y)) ≡ set (map f (take n xs)) i (f y)
 shown_of_set f n xs i y = ap (map f) (take_of_set n xs i y) ∙ map-set f (take n xs) i y
+
+-- and of a row that is shown as a whole as each of its doors is
+pub row_of_set :
+    {X Y : Type 0} (f : X → Y) (all : List X → List Y) → ((xs : List X) → all xs ≡ map f xs) → (n : ℕ) (xs : List X) (i : ℕ) (y : X) →
+    all (take n (set xs i y)) ≡ set (all (take n xs)) i (f y)
+row_of_set f all each n xs i y = each (take n (set xs i y)) ∙ shown_of_set f n xs i y ∙ ap (λ zs. set zs i (f y)) (sym (each (take n xs)))

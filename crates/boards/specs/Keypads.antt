@@ -2,8 +2,13 @@
 use Rattle.std.specs.Prelude.{ℕ, ◌%◌, Bool, not, ◌&&◌, List, take, Result, ◌==◌}
 use Rattle.terms.specs.declared.refusals.Refusal.{Refusal}
 use Rattle.terms.specs.Numbers.{is_key}
-use Rattle.boards.specs.declared.keypad.Keypad.{Keypad}
+use Rattle.boards.specs.declared.door.Door.{Door}
+use Rattle.boards.specs.declared.row.Row.{Row}
 use Rattle.boards.specs.Boards.{Meaning, made}
+
+-- a row of doors that keep their numbers as they are
+abbrev pub Keypad : Type 0
+Keypad = Row Door
 
 -- every key number but 0, 111,111 and its other multiples: one digit six times over
 abbrev pub keypad_takes : ℕ → Bool

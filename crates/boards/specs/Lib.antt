@@ -1,4 +1,5 @@
 pub mod Boards
+pub mod Rows
 pub mod Keypads
 pub mod Wheels
 pub mod WheelBoards

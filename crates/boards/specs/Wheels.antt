@@ -44,10 +44,6 @@ staged_by w (Some t) = Some (key (number_after w t))
 abbrev pub shown : WheelDoor → Door
 shown d = door (key (setting_number d.wheels)) (staged_by d.wheels d.turns)
 
-abbrev pub shown_at : Option WheelDoor → Option Door
-shown_at None = None
-shown_at (Some d) = Some (shown d)
-
 -- every key number whose last two digits are 20 or more
 abbrev pub wheel_takes : ℕ → Bool
 wheel_takes n = is_key n && nat_le 20 (n % 100)

@@ -4,9 +4,10 @@
 
 pub mod board;
 pub mod door;
+mod door_kind;
 pub mod keypad;
-pub mod keypad_calls;
+mod row;
+mod row_calls;
 mod wheel;
 pub mod wheel_board;
-pub mod wheel_calls;
 pub mod wheel_door;

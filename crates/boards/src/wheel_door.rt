@@ -1,6 +1,7 @@
 // Three wheels, which show a number, and the turns to the next one.
-ghost use Rattle.std.specs.Prelude.{◌≡◌, ◌≤◌, pos, negsuc, ◌≤ℤ◌, Some};
-ghost use Rattle.boards.specs.Wheels.{turn_of, turned_by, setting_number, number_after, wheels_number, in_range, shown, shown_at};
+ghost use Rattle.std.specs.Prelude.{◌≡◌, ◌≤◌, pos, negsuc, ◌≤ℤ◌, nat_le};
+ghost use Rattle.std.specs.Option.{option_map};
+ghost use Rattle.boards.specs.Wheels.{turn_of, turned_by, setting_number, number_after, wheels_number, in_range, shown};
 ghost use Rattle.boards.specs.Boards as Boards;
 ghost use Rattle.terms.specs.Numbers.{key, within};
 
@@ -15,7 +16,8 @@ pub struct Wheels {
     pub c: u32,
 }
 
-// The three wheels of a door.
+// The three wheels of a door. They have names and are no array: each has a weight of
+// its own in the number.
 #[derive(Clone, Copy)]
 pub(crate) struct Setting {
     a: Wheel,
@@ -33,12 +35,21 @@ pub(crate) struct Turns {
 
 // A door whose staged number is kept as the turns that lead to it.
 #[derive(Clone, Copy)]
-pub(crate) struct WheelDoor {
+pub struct WheelDoor {
     pub(crate) wheels: Setting,
     pub(crate) turns: Option<Turns>,
 }
 
 impl Wheel {
+    fn new(at: u32) -> Option<Wheel>
+        ensures { option_map (λ (w : Wheel). w.at) result ≡ within (nat_le at 99) at }
+    {
+        if at > 99 {
+            return None;
+        }
+        Some(Wheel { at: at as u8 })
+    }
+
     // The turn that brings this wheel to where another stands.
     fn turn_to(self, to: Wheel) -> Turn
         ensures turn { result.by ≡ turn_of self.at to.at }
@@ -61,6 +72,17 @@ impl Wheel {
 }
 
 impl Setting {
+    // The wheels so, if each can stand so.
+    pub(crate) fn new(wheels: Wheels) -> Option<Setting>
+        ensures { option_map setting_number result ≡ within (in_range wheels) (wheels_number wheels) }
+    {
+        Some(Setting {
+            a: Wheel::new(wheels.a)?,
+            b: Wheel::new(wheels.b)?,
+            c: Wheel::new(wheels.c)?,
+        })
+    }
+
     // The setting that shows a number, two digits a wheel.
     pub(crate) fn showing(number: u32) -> Setting
         requires { number ≤ 999999 }
@@ -115,36 +137,6 @@ impl WheelDoor {
         WheelDoor {
             wheels,
             turns: None,
-        }
-    }
-
-    // The door of a place that is not used.
-    pub(crate) fn blank() -> WheelDoor {
-        WheelDoor::idle(Setting::showing(0))
-    }
-
-    // A door with its wheels set and nothing staged, if each wheel can stand so.
-    pub(crate) fn new(wheels: Wheels) -> Option<WheelDoor>
-        ensures { shown_at result ≡ within (in_range wheels) (Boards.idle (key (wheels_number wheels))) }
-    {
-        if wheels.a > 99 || wheels.b > 99 || wheels.c > 99 {
-            return None;
-        }
-        Some(WheelDoor::idle(Setting {
-            a: Wheel { at: wheels.a as u8 },
-            b: Wheel { at: wheels.b as u8 },
-            c: Wheel { at: wheels.c as u8 },
-        }))
-    }
-
-    pub(crate) fn with_staged(self, number: KeyNumber) -> WheelDoor
-        requires { number.0 ≤ 999999 }
-        ensures { shown result ≡ Boards.door (shown self).force (Some number) }
-    {
-        let turns = self.wheels.turns_to(Setting::showing(number.value()));
-        WheelDoor {
-            wheels: self.wheels,
-            turns: Some(turns),
         }
     }
 }

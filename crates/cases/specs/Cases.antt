@@ -6,12 +6,10 @@ use Rattle.terms.specs.declared.sizes.Sizes.{Sizes}
 use Rattle.terms.specs.declared.parties.Outcome.TheVariants.{Keep, Number}
 use Rattle.terms.specs.Numbers.{seat, place, change, view_of, key}
 use Rattle.terms.specs.Parties.{leader_of}
-use Rattle.boards.specs.declared.keypad.Keypad.{Keypad}
-use Rattle.boards.specs.declared.wheel_board.WheelBoard.{WheelBoard}
 use Rattle.boards.specs.Boards.{has_place, takes_at}
-use Rattle.boards.specs.Keypads.{keypad_meaning}
+use Rattle.boards.specs.Keypads.{Keypad, keypad_meaning}
 use Rattle.boards.specs.Wheels.{turn_of}
-use Rattle.boards.specs.WheelBoards.{wheel_meaning}
+use Rattle.boards.specs.WheelBoards.{WheelBoard, wheel_meaning}
 use Rattle.letters.specs.declared.sorts.Seal.{Seal}
 use Rattle.letters.specs.declared.sorts.Answer.{Answer}
 use Rattle.letters.specs.declared.sorts.Answer.TheVariants.{Ready, Refuse}
