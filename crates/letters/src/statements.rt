@@ -29,7 +29,7 @@ pub struct Borne {
     pub seal: Seal,
 }
 
-fn outcome_number(outcome: Outcome) -> Option<KeyNumber>
+pub fn outcome_number(outcome: Outcome) -> Option<KeyNumber>
     ensures { result ≡ Statements.outcome_number outcome }
 {
     match outcome {
