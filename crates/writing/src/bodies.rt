@@ -3,10 +3,9 @@ ghost use Rattle.std.specs.Prelude.{◌≡◌, ◌≤◌};
 ghost use Rattle.letters.specs.Statements.{outcome_number};
 ghost use Rattle.letters.specs.Layout as Layout;
 
-use crate::certificates::certificate_draft;
+use crate::certificates::{certificate_draft, number_draft};
 use crate::drafts::Draft;
 use crate::maps::map_of;
-use crate::parts::number_draft;
 use letters::bodies::Body;
 use letters::certificates::{Basis, Certificate};
 use letters::sorts::{Answer, Digest, Kind, Seal, SeatSet};
@@ -57,11 +56,10 @@ fn move_map(basis: &Option<Basis>) -> u16
 {
     match basis {
         None => COMMON + VIEW,
-        Some(basis) => COMMON
-            + VIEW
-            + number_bit(outcome_number(basis.outcome))
-            + BASIS
-            + CERTIFICATE,
+        Some(basis) => {
+            let number = number_bit(outcome_number(basis.outcome));
+            COMMON + VIEW + number + BASIS + CERTIFICATE
+        }
     }
 }
 

@@ -1,10 +1,9 @@
 // A certificate's bytes, and their digest.
 ghost use Rattle.std.specs.Prelude.{◌≡◌};
-ghost use Rattle.letters.specs.Certificates.{order_flag, certificate_bytes, certificate_digest};
+ghost use Rattle.letters.specs.Certificates.{order_flag, number_bytes, certificate_bytes, certificate_digest};
 
 use crate::drafts::Draft;
 use crate::maps::map_of;
-use crate::parts::number_draft;
 use letters::certificates::Certificate;
 use letters::digests::digest_of;
 use letters::sorts::{Answer, Digest};
@@ -14,6 +13,17 @@ fn order_flag(number: Option<KeyNumber>) -> u8
     ensures { result ≡ order_flag number }
 {
     if number.is_some() { 1 } else { 0 }
+}
+
+// The number, if there is one.
+pub(crate) fn number_draft(number: Option<KeyNumber>) -> Draft<4>
+    ensures { result ≡ number_bytes number }
+{
+    let mut draft = Draft::new();
+    if let Some(number) = number {
+        draft.extend(&number.value().to_le_bytes());
+    }
+    draft
 }
 
 // A certificate: 4 bytes, a number, and 17 seals at most.

@@ -66,6 +66,7 @@ impl<const N: usize> Draft<N> {
     {
         self.extend(part.as_slice());
     }
+
     // The seals of the rows that have one, rows rising.
     pub(crate) fn extend_rows<T, F: Fn(&T) -> Option<Seal>>(&mut self, rows: &[T], seal_of: F)
         requires callable { F.IsAlwaysCallable seal_of }
@@ -79,6 +80,7 @@ impl<const N: usize> Draft<N> {
             }
         }
     }
+
     // Writes the draft over the start of a buffer, and says how long it is. Where there is
     // no room for all of it, nothing is written.
     pub(crate) fn write(&self, out: &mut [u8]) -> Result<usize, Refusal>

@@ -6,6 +6,5 @@ pub mod briefs;
 pub mod certificates;
 mod drafts;
 mod maps;
-mod parts;
 pub mod statements;
 pub mod whole;
