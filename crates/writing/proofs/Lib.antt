@@ -1,5 +1,3 @@
-pub mod Puts
-pub mod Rows
-pub mod Room
 pub mod Lengths
 pub mod RowMaps
+pub mod Rows

@@ -1,47 +1,58 @@
 -- Maps of rows, from the last row down.
-use Rattle.std.proofs.Common.{◌≡◌, ℕ, suc, ◌+◌, ◌-◌, ◌*◌, ◌^◌, ◌<◌, ◌≤◌, Bool, true, false, cond, List, [], ◌∷◌, length, get_or, drop, refl, ap, ◌∙◌, pow-suc, arith, length-drop, pow_mono}
-use Rattle.std.proofs.lemmas.List.{drop_more, drop_all}
+use Rattle.std.proofs.Common.{◌≡◌, ℕ, suc, ◌+◌, ◌*◌, ◌^◌, ◌<◌, ◌≤◌, Bool, true, false, cond, List, [], ◌∷◌, ◌++◌, length, sym, refl, ap, ◌∙◌, pow-suc, arith, length-append, pow_mono}
+use Rattle.std.proofs.lemmas.List.{append_assoc, append-nil}
 use Rattle.letters.specs.Bytes.{map_of}
 
-pub map_none : {A : Type 0} (test : A → Bool) → map_of test [] ≡ 0
-unfolding map_of
-map_none test = refl
+-- the rows are those that are left and those that are done, and m is the map of these under each
+-- test that is known
+pub record MapSoFar {A : Type 0} (Known : (A → Bool) → Type 0) (rows left : List A) (m : ℕ) : Type 0 where
+  pub done : List A
+  pub parts : left ++ done ≡ rows
+  pub maps : (test : A → Bool) → Known test → m ≡ map_of test done
+  pub small : m < 2 ^ length done
 
-pub map_cons : {A : Type 0} (test : A → Bool) (x : A) (xs : List A) → map_of test (x ∷ xs) ≡ cond (test x) 1 0 + 2 * map_of test xs
+pub map_start : {A : Type 0} (Known : (A → Bool) → Type 0) (rows : List A) → MapSoFar Known rows rows 0
 unfolding map_of
-map_cons test x xs = refl
+map_start Known rows = record { done = []; parts = append-nil rows; maps = λ test k. refl; small = omega arith }
 
 bit_small : (b : Bool) → cond b 1 0 ≤ 1
 bit_small true = omega arith
 bit_small false = omega arith
 
--- n rows have a map of n bits
-pub map_small : {A : Type 0} (test : A → Bool) (xs : List A) → map_of test xs < 2 ^ length xs
+-- the last row that is left is done
+pub map_step :
+    {A : Type 0} {Known : (A → Bool) → Type 0} {rows left rest : List A} {m : ℕ} (b : Bool) (x : A) →
+    MapSoFar Known rows left m → left ≡ rest ++ x ∷ [] → ((test : A → Bool) → Known test → b ≡ test x) →
+    MapSoFar Known rows rest (cond b 1 0 + 2 * m)
 unfolding map_of
-map_small test [] = omega arith
-map_small test (x ∷ xs) = let e : 2 ^ suc (length xs) ≡ 2 ^ length xs * 2 = pow-suc 2 (length xs) in omega (arith, bit_small (test x), map_small test xs)
+map_step {A} {Known} {rows} {left} {rest} {m} b x s e t =
+    let double : 2 ^ suc (length s.done) ≡ 2 ^ length s.done * 2 = pow-suc 2 (length s.done) in record {
+      done = x ∷ s.done;
+      parts = sym (append_assoc rest (x ∷ []) s.done) ∙ ap (λ z. z ++ s.done) (sym e) ∙ s.parts;
+      maps = λ test k. ap (λ z. cond z 1 0 + 2 * m) (t test k) ∙ ap (λ z. cond (test x) 1 0 + 2 * z) (s.maps test k);
+      small = omega (arith, bit_small b, s.small);
+    }
 
--- the rows from k - 1 on
-pub map_down :
-    {A : Type 0} (test : A → Bool) (xs : List A) (k : ℕ) (d : A) → 0 < k → k ≤ length xs →
-    map_of test (drop (k - 1) xs) ≡ cond (test (get_or xs (k - 1) d)) 1 0 + 2 * map_of test (drop k xs)
-map_down test xs k d p h =
-    let e : k - 1 + 1 ≡ k = omega arith in
-    ap (map_of test) (drop_more xs (k - 1) d (omega arith)) ∙ map_cons test (get_or xs (k - 1) d) (drop (k - 1 + 1) xs) ∙ ap (λ n. cond (test (get_or xs (k - 1) d)) 1 0 + 2 * map_of test (drop n xs)) e
+-- of at most sixteen rows, with one left, those done have a map of fifteen bits
+pub map_room :
+    {A : Type 0} {Known : (A → Bool) → Type 0} {rows left : List A} {m : ℕ} →
+    MapSoFar Known rows left m → 0 < length left → length rows ≤ 16 → m < 32768
+map_room {A} {Known} {rows} {left} {m} s e h =
+    let n : length rows ≡ length left + length s.done = ap length (sym s.parts) ∙ length-append left s.done in
+    let few : length s.done ≤ 15 = omega arith in
+    let p : 2 ^ length s.done ≤ 2 ^ 15 = pow_mono few in omega (arith, s.small)
 
-pub map_end : {A : Type 0} (test : A → Bool) (xs : List A) → map_of test (drop (length xs) xs) ≡ 0
-map_end test xs = ap (map_of test) (drop_all (length xs) xs (omega arith)) ∙ map_none test
+none_left : {A : Type 0} (left : List A) → length left ≡ 0 → left ≡ []
+none_left [] e = refl
+none_left (x ∷ xs) e = absurd (omega arith)
 
--- all rows
-pub map_all : {A : Type 0} (test : A → Bool) (xs : List A) (k : ℕ) → k ≤ 0 → map_of test (drop k xs) ≡ map_of test xs
-map_all test xs k h = let e : k ≡ 0 = omega arith in ap (λ n. map_of test (drop n xs)) e
-
--- of at most sixteen rows, those from row 1 on have a map of fifteen bits
-pub map_room : {A : Type 0} (test : A → Bool) (xs : List A) (k : ℕ) → 0 < k → length xs ≤ 16 → map_of test (drop k xs) < 32768
-map_room test xs k p h =
-    let e : length (drop k xs) ≤ 15 = omega (arith, length-drop k xs) in
-    let m : 2 ^ length (drop k xs) ≤ 2 ^ 15 = pow_mono e in omega (arith, map_small test (drop k xs))
+-- none is left
+pub map_all : {A : Type 0} {Known : (A → Bool) → Type 0} {rows left : List A} {m : ℕ} → MapSoFar Known rows left m → length left ≡ 0 → (test : A → Bool) → Known test → m ≡ map_of test rows
+map_all {A} {Known} {rows} {left} {m} s e test k = s.maps test k ∙ ap (map_of test) (sym (ap (λ z. z ++ s.done) (none_left left e)) ∙ s.parts)
 
 -- up to eight rows have a map of one byte
-pub map_byte : {A : Type 0} (test : A → Bool) (xs : List A) → length xs ≤ 8 → map_of test xs < 256
-map_byte test xs h = let m : 2 ^ length xs ≤ 2 ^ 8 = pow_mono h in omega (arith, map_small test xs)
+pub map_byte : {A : Type 0} {Known : (A → Bool) → Type 0} {rows left : List A} {m : ℕ} → MapSoFar Known rows left m → length rows ≤ 8 → m < 256
+map_byte {A} {Known} {rows} {left} {m} s h =
+    let n : length rows ≡ length left + length s.done = ap length (sym s.parts) ∙ length-append left s.done in
+    let few : length s.done ≤ 8 = omega arith in
+    let p : 2 ^ length s.done ≤ 2 ^ 8 = pow_mono few in omega (arith, s.small)

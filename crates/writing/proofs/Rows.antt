@@ -1,44 +1,48 @@
--- One row more.
-use Rattle.std.proofs.Common.{◌≡◌, ℕ, ◌+◌, ◌<◌, List, [], ◌∷◌, ◌++◌, length, get_or, take, None, Option, sym, refl, ap, ◌∙◌}
-use Rattle.std.proofs.lemmas.List.{append_assoc, append-nil, take_more}
+-- The seals of some rows, and of one row more.
+use Rattle.std.proofs.Common.{◌≡◌, ℕ, ◌+◌, ◌<◌, ◌≤◌, List, [], ◌∷◌, ◌++◌, length, map, take, get_or, Some, None, Option, sym, refl, ap, ◌∙◌, arith}
+use Rattle.std.proofs.lemmas.List.{append_assoc, append-nil, take_more, map-append}
 use Rattle.letters.specs.declared.sorts.Seal.{Seal}
 use Rattle.letters.specs.declared.certificates.Vote.{Vote}
-use Rattle.letters.specs.Bytes.{seal_bytes, row_bytes}
+use Rattle.letters.specs.Bytes.{le8, seal_bytes, row_bytes}
 use Rattle.letters.specs.Certificates.{vote_seal, vote_seals}
+
+rows_append : (rs ss : List (Option Seal)) → row_bytes (rs ++ ss) ≡ row_bytes rs ++ row_bytes ss
+unfolding row_bytes
+rows_append [] ss = refl
+rows_append (r ∷ rs) ss = ap (λ z. seal_bytes r ++ z) (rows_append rs ss) ∙ sym (append_assoc (seal_bytes r) (row_bytes rs) (row_bytes ss))
 
 pub rows_none : row_bytes [] ≡ []
 unfolding row_bytes
 rows_none = refl
 
-pub rows_one : (r : Option Seal) → row_bytes (r ∷ []) ≡ seal_bytes r
+pub rows_more : (rs : List (Option Seal)) (r : Option Seal) → row_bytes (rs ++ r ∷ []) ≡ row_bytes rs ++ seal_bytes r
 unfolding row_bytes
-rows_one r = append-nil (seal_bytes r)
+rows_more rs r = rows_append rs (r ∷ []) ∙ ap (λ z. row_bytes rs ++ z) (append-nil (seal_bytes r))
 
-pub rows_append : (rs ss : List (Option Seal)) → row_bytes (rs ++ ss) ≡ row_bytes rs ++ row_bytes ss
-unfolding row_bytes
-rows_append [] ss = refl
-rows_append (r ∷ rs) ss = ap (λ z. seal_bytes r ++ z) (rows_append rs ss) ∙ sym (append_assoc (seal_bytes r) (row_bytes rs) (row_bytes ss))
+-- row i more of those that stand in a buffer already
+pub rows_next :
+    {A : Type 0} {before after : List ℕ} {r : Option Seal} (old : List ℕ) (seal : A → Option Seal) (xs : List A) (i : ℕ) (x : A) →
+    i < length xs → x ≡ get_or xs i x → before ≡ old ++ row_bytes (map seal (take i xs)) → after ≡ before ++ seal_bytes r → r ≡ seal x →
+    after ≡ old ++ row_bytes (map seal (take (i + 1) xs))
+rows_next {A} {before} {after} {r} old seal xs i x h at b a e =
+    let more : take (i + 1) xs ≡ take i xs ++ x ∷ [] = take_more xs i x h ∙ ap (λ z. take i xs ++ z ∷ []) (sym at) in
+    a ∙ ap (λ z. z ++ seal_bytes r) b ∙ append_assoc old (row_bytes (map seal (take i xs))) (seal_bytes r)
+    ∙ ap (λ z. old ++ (row_bytes (map seal (take i xs)) ++ seal_bytes z)) e
+    ∙ ap (λ z. old ++ z) (sym (rows_more (map seal (take i xs)) (seal x)) ∙ ap row_bytes (sym (map-append seal (take i xs) (x ∷ []))))
+    ∙ ap (λ z. old ++ row_bytes (map seal z)) (sym more)
 
-pub seals_append : (vs ws : List (Option Vote)) → vote_seals (vs ++ ws) ≡ vote_seals vs ++ vote_seals ws
+-- no seal is longer than eight bytes
+pub seal_length : (r : Option Seal) → length (seal_bytes r) ≤ 8
+unfolding le8
+seal_length None = omega arith
+seal_length (Some z) = omega arith
+
+-- the rows as they are
+pub map_same : {A : Type 0} (xs : List A) → map (λ x. x) xs ≡ xs
+map_same [] = refl
+map_same (x ∷ xs) = ap (λ z. x ∷ z) (map_same xs)
+
+pub map_seals : (vs : List (Option Vote)) → map vote_seal vs ≡ vote_seals vs
 unfolding vote_seals
-seals_append [] ws = refl
-seals_append (v ∷ vs) ws = ap (λ z. vote_seal v ∷ z) (seals_append vs ws)
-
-pub seals_none : vote_seals [] ≡ []
-unfolding vote_seals
-seals_none = refl
-
-pub seals_one : (v : Option Vote) → vote_seals (v ∷ []) ≡ vote_seal v ∷ []
-unfolding vote_seals
-seals_one v = refl
-
-pub votes_none : row_bytes (vote_seals []) ≡ []
-votes_none = ap row_bytes seals_none ∙ rows_none
-
-pub rows_more : (rs : List (Option Seal)) (i : ℕ) → i < length rs → row_bytes (take (i + 1) rs) ≡ row_bytes (take i rs) ++ seal_bytes (get_or rs i None)
-rows_more rs i h = ap row_bytes (take_more rs i None h) ∙ rows_append (take i rs) _ ∙ ap (λ z. row_bytes (take i rs) ++ z) (rows_one (get_or rs i None))
-
-pub votes_more : (vs : List (Option Vote)) (i : ℕ) → i < length vs → row_bytes (vote_seals (take (i + 1) vs)) ≡ row_bytes (vote_seals (take i vs)) ++ seal_bytes (vote_seal (get_or vs i None))
-votes_more vs i h =
-    ap (λ z. row_bytes (vote_seals z)) (take_more vs i None h) ∙ ap row_bytes (seals_append (take i vs) _ ∙ ap (λ z. vote_seals (take i vs) ++ z) (seals_one (get_or vs i None)))
-    ∙ rows_append (vote_seals (take i vs)) _ ∙ ap (λ z. row_bytes (vote_seals (take i vs)) ++ z) (rows_one (vote_seal (get_or vs i None)))
+map_seals [] = refl
+map_seals (v ∷ vs) = ap (λ z. vote_seal v ∷ z) (map_seals vs)

@@ -1,3 +1,3 @@
-pub mod Puts
+pub mod Closures
 pub mod Writing
 pub mod Longest

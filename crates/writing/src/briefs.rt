@@ -20,10 +20,7 @@ fn brief_of(basis: &Basis) -> Brief
 fn brief_if(basis: &Option<Basis>) -> Option<Brief>
     ensures { result ≡ each_basis brief_of basis.now }
 {
-    match basis {
-        Some(basis) => Some(brief_of(basis)),
-        None => None,
-    }
+    basis.as_ref().map(brief_of)
 }
 
 // The same letter, with a digest for its certificate and a brief for its basis.

@@ -1,10 +1,10 @@
 // Letters, certificates and statements as bytes.
-#![tactic(auto)]
+#![tactic(auto, unfolding(letters::specs::Bytes::le2, letters::specs::Bytes::le4, letters::specs::Bytes::le8))]
 
 mod bodies;
 pub mod briefs;
 pub mod certificates;
+mod drafts;
 mod maps;
-mod parts;
 pub mod statements;
 pub mod whole;

@@ -1,22 +1,17 @@
-use Rattle.std.proofs.Common.{◌≡◌, drop, is_some, sym, ◌∙◌, arith}
-use Rattle.letters.specs.Bytes.{map_of}
-use Rattle.writing.proofs.RowMaps.{map_end, map_all, map_down, map_room, map_byte}
+use Rattle.std.proofs.Common.{length, ap, arith}
+use Rattle.std.proofs.lemmas.List.{length_push}
+use Rattle.writing.proofs.RowMaps.{map_start, map_step, map_room, map_all, map_byte}
 use Rattle.writing.proofs.maps.map_of.Goals as goal
 
-pub loop-k-init : goal.loop-k-init
-loop-k-init g c = sym (map_end is_some c.args.rows.now)
+pub loop-row-init : goal.loop-row-init
+loop-row-init g c = (tt, tt, rw (c.into_iter-row-iterator.ensures.into_iter_gives, c.rev-row-items.ensures.source, c.iter.ensures.rest) (map_start _ c.args.rows.now))
 
 pub with_bit-map-requires : goal.with_bit-map-requires
-with_bit-map-requires g c =
-    let e : c.loop-k.map ≡ map_of is_some (drop c.loop-k.k c.args.rows.now) = c.loop-k.invariant in
-    omega (arith, map_room is_some c.args.rows.now c.loop-k.k (omega arith) (omega arith))
+with_bit-map-requires g c = map_room c.loop-row.invariant.2 (omega (arith, ap length c.in-Some.ensures.steps, length_push c.next.new.self.iter.rest.now c.in-Some.row.now)) c.requires.few
 
-pub loop-k-preserved : goal.loop-k-preserved
-loop-k-preserved g c =
-    let e : c.loop-k.map ≡ map_of is_some (drop c.loop-k.k c.args.rows.now) = c.loop-k.invariant in
-    let d = map_down is_some c.args.rows.now c.loop-k.k c.index-rows-k.result (omega arith) (omega arith) in cc
+pub loop-row-preserved : goal.loop-row-preserved
+loop-row-preserved g c =
+    (tt, tt, rw c.with_bit-map.ensures (map_step c.passes.result c.in-Some.row.now c.loop-row.invariant.2 c.in-Some.ensures.steps (λ test k. k _ _ c.passes.ensures)))
 
 pub returns : goal.returns
-returns g c =
-    let e : c.loop-k.map ≡ map_of is_some c.args.rows.now = c.loop-k.invariant ∙ map_all is_some c.args.rows.now c.loop-k.k (omega arith) in
-    record { map = e; byte = λ h. omega (arith, map_byte is_some c.args.rows.now h) }
+returns g c = record { map = map_all c.loop-row.invariant.2 c.in-None.ensures.steps.0; byte = map_byte c.loop-row.invariant.2 }

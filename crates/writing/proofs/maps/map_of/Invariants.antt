@@ -1,6 +1,10 @@
-use Rattle.std.proofs.Common.{◌≡◌, drop, is_some}
-use Rattle.letters.specs.Bytes.{map_of}
+use Rattle.writing.specs.Closures.{Computes}
+use Rattle.writing.proofs.RowMaps.{MapSoFar}
 use Rattle.writing.proofs.maps.map_of.Given as goal
 
-abbrev pub invariant-loop-k : goal.invariant-loop-k
-invariant-loop-k g l = l.map ≡ map_of is_some (drop l.k l.rows)
+-- the rows from the last down to those that are left
+abbrev pub invariant-loop-row : goal.invariant-loop-row
+invariant-loop-row g l =
+    (goal.iterator-loop-row g).can_next l.row-iterator ×
+    (goal.iterator-loop-row g).is_finite l.row-iterator ×
+    MapSoFar (Computes g.F.Fn l.passes) l.rows l.row-iterator.iter.rest.now l.map

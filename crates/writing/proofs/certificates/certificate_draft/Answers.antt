@@ -1,0 +1,15 @@
+use Rattle.std.proofs.Common.{is_some, rules}
+use Rattle.letters.specs.Bytes.{le8}
+use Rattle.letters.specs.Certificates.{ready_vote, vote_seal}
+use Rattle.writing.proofs.Rows.{map_same, map_seals}
+use Rattle.writing.proofs.certificates.certificate_draft.Goals as goal
+
+pub returns : goal.returns
+unfolding le8
+returns c =
+    let enrolled = c.map_of-enrolled.ensures.map is_some (λ x r h. search rules) in
+    let voted = c.map_of-voted.ensures.map is_some (λ x r h. search rules) in
+    let ready = c.map_of-ready.ensures.map ready_vote (λ x r h. search rules) in
+    let seals = c.extend_rows.ensures.rows (λ r. r) (λ x r h. search rules) in
+    let votes = c.extend_rows-2.ensures.rows vote_seal (λ x r h. search rules) in
+    rw (votes, map_seals, seals, map_same, c.extend-2.ensures, c.append.ensures.joined, c.extend.ensures, enrolled, voted, ready) (search rules)
