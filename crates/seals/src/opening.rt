@@ -15,7 +15,7 @@ use schemes::scheme::Scheme;
 use terms::refusals::{Refusal, no_room};
 use terms::sizes::Sizes;
 
-// A letter whose form and seals were accepted. Only `open` makes one; it is
+// A letter whose form and seals were accepted. Only opening makes one; it is
 // neither copied nor let go, so that one rule spends it.
 pub struct Opened<'a> {
     letter: Letter<Part<'a>, Grounds<'a>>,
