@@ -24,6 +24,8 @@ unfolding accept_all
 accept_both holds [] cs n = refl
 accept_both holds (b ∷ bs) cs n = then_both holds bs cs (accept_both holds bs cs) (accept_one holds b n)
 
+pub ruleset accept_steps = (accept_none, accept_more, accept_both)
+
 consed_accepted : (holds : Relation) (o : Option Borne) (bs : List Borne) (n : ℕ) → accept_all holds (consed o bs) n ≡ (accept_if holds o n >>= accept_all holds bs)
 unfolding accept_all
 consed_accepted holds None bs n = refl

@@ -2,7 +2,6 @@
 use Rattle.std.specs.Prelude.{ℕ, ◌+◌, Bool, cond, List, [], ◌∷◌, Some, None, Ok, Err, Option, Result as Res}
 use Rattle.terms.specs.declared.numbers.Change.{Change}
 use Rattle.terms.specs.declared.parties.Party.{Party}
-use Rattle.terms.specs.declared.parties.Party.TheVariants.{Controller, Lock, Office}
 use Rattle.terms.specs.declared.refusals.Cause.TheVariants as Cause
 use Rattle.terms.specs.declared.refusals.SealCause.{SealCause}
 use Rattle.terms.specs.declared.refusals.SealCause.TheVariants.{Sender, Inner}
@@ -15,9 +14,9 @@ use Rattle.letters.specs.declared.certificates.Certificate.{Certificate}
 use Rattle.letters.specs.declared.statements.Borne.{Borne}
 use Rattle.letters.specs.declared.bodies.Letter.{Letter}
 use Rattle.letters.specs.declared.bodies.Body.{Body}
-use Rattle.letters.specs.declared.bodies.Body.TheVariants.{Enrol, Receipt, Order, Summons, Vote, Proposal, Assent, Confirm, Result, Move}
 use Rattle.letters.specs.Bodies.{in_brief}
 use Rattle.letters.specs.Inner.{bears, inner_borne}
+use Rattle.letters.specs.Senders as Senders
 use Rattle.letters.specs.Statements.{statement_of, statement_bytes}
 use Rattle.reading.specs.Bind.{◌>>=◌}
 use Rattle.reading.specs.Form.{read}
@@ -50,16 +49,7 @@ accept_all holds [] n = Ok n
 accept_all holds (b ∷ bs) n = accept_one holds b n >>= accept_all holds bs
 
 abbrev pub sender_of : {C B : Type 0} → Body C B → Party
-sender_of (Enrol p) = Lock p
-sender_of (Receipt s p) = Controller s
-sender_of (Order n) = Office
-sender_of (Summons s n z) = Controller s
-sender_of (Vote p n a) = Lock p
-sender_of (Proposal s v x c m) = Controller s
-sender_of (Assent s v x d) = Controller s
-sender_of (Confirm s v x d) = Controller s
-sender_of (Result s x) = Controller s
-sender_of (Move s v b) = Controller s
+sender_of b = Senders.sender_of b
 
 -- the seal of a letter's sender
 abbrev pub sender_borne : Change → Body Certificate Basis → Seal → Borne

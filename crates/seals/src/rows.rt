@@ -1,5 +1,5 @@
 // Rows of seals inside a letter.
-ghost use Rattle.std.specs.Prelude.{◌≡◌, ℕ, None, Option, slice_index_or};
+ghost use Rattle.std.specs.Prelude.{◌≡◌, ℕ, Option};
 ghost use Rattle.letters.specs.declared.statements.Borne.{Borne};
 ghost use Rattle.letters.specs.Inner.{enrol_row, vote_row, assent_row};
 
@@ -44,23 +44,12 @@ pub(crate) struct Assents<'a> {
     pub(crate) rows: &'a [Option<Seal>],
 }
 
-// The entry of a row, or none past the last row.
-fn entry<T: Copy + Drop>(rows: &[Option<T>], k: u8) -> Option<T>
-    ensures { result ≡ slice_index_or rows.now k None }
-{
-    if (k as usize) < rows.len() {
-        rows[k as usize]
-    } else {
-        None
-    }
-}
-
 impl SealRows for Enrolments<'_> {
     ghost row = { λ s k. enrol_row s.change s.rows.now k };
 
     fn row_at(&self, k: u8) -> Option<Borne> {
         let place = Place::new(k as u32)?;
-        let seal = entry(self.rows, k)?;
+        let seal = self.rows.get(k as usize).copied().flatten()?;
         Some(Borne {
             party: Party::Lock(place),
             statement: Statement::new(self.change, Body::Enrol { sender: place }),
@@ -74,7 +63,7 @@ impl SealRows for Votes<'_> {
 
     fn row_at(&self, k: u8) -> Option<Borne> {
         let place = Place::new(k as u32)?;
-        let vote = entry(self.rows, k)?;
+        let vote = self.rows.get(k as usize).copied().flatten()?;
         Some(Borne {
             party: Party::Lock(place),
             statement: Statement::of_vote(self.change, place, self.number, vote.answer),
@@ -88,7 +77,7 @@ impl SealRows for Assents<'_> {
 
     fn row_at(&self, k: u8) -> Option<Borne> {
         let sender = Seat::new(k as u32)?;
-        let seal = entry(self.rows, k)?;
+        let seal = self.rows.get(k as usize).copied().flatten()?;
         let body = Body::Assent {
             sender,
             view: self.view,

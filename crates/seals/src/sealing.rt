@@ -1,22 +1,21 @@
 // Sealing a letter, and sending it.
-ghost use Rattle.std.specs.Prelude.{◌≡◌, ℕ, ◌+◌, ◌<◌, ◌≤◌, Bool, true, length, is_ok};
+ghost use Rattle.std.specs.Prelude.{◌≡◌, ℕ, ◌+◌, ◌<◌, ◌≤◌, Bool, true, length, is_ok, replicate};
 ghost use Rattle.letters.specs.Bodies.{letter};
 ghost use Rattle.letters.specs.Bytes.{written};
 ghost use Rattle.letters.specs.Layout.{layout};
 ghost use Rattle.letters.specs.Sorts.{seal};
-ghost use Rattle.terms.specs.Refusals as Refusals;
 ghost use Rattle.seals.specs.Opening.{accepted, sender_borne};
 ghost use Rattle.seals.specs.Scratch.{roomy, cleared, scratch_after};
 ghost use Rattle.seals.specs.Sealing.{seal_in, seal_answer, seal_of, send_answer, send_buffer, send_scratch};
 
 use crate::accepting::sender_borne;
-use crate::guard::over;
+use crate::guard::{Guard, Room, make_seal};
 use letters::bodies::{Body, Letter};
 use letters::certificates::{Basis, Certificate};
 use letters::sorts::Seal;
 use schemes::scheme::Scheme;
 use terms::numbers::Change;
-use terms::refusals::{CallCause, Cause, Refusal};
+use terms::refusals::{Refusal, no_room};
 use writing::whole::{length_of, write};
 
 // What was sent: how many bytes, under which seal.
@@ -26,32 +25,23 @@ pub struct Sent {
     pub seal: Seal,
 }
 
-fn no_room() -> Refusal
-    ensures { result ≡ Refusals.no_room }
-{
-    Refusal {
-        cause: Cause::Call(CallCause::NoRoom),
-        place: 0,
-    }
-}
-
 // The sender's seal on what the letter says.
 fn sender_seal<S: Scheme>(
     scheme: &S,
     change: Change,
     body: &Body<Certificate, Basis>,
-    scratch: &mut [u8],
+    room: &mut Room,
 ) -> Seal
-    requires { 24 ≤ length scratch.old }
     ensures sealed { accepted (S.Scheme.holds scheme.now) (sender_borne change body.now result) ≡ true }
-    ensures scratch_cleared { scratch.new ≡ cleared scratch.old }
+    ensures room_cleared { room.new ≡ replicate 24 0 }
 {
-    let mut guard = over(scratch);
+    let guard = Guard { room };
     let unsealed = sender_borne(change, body, Seal(0));
-    guard.seal(scheme, unsealed.party, unsealed.statement)
+    make_seal(scheme, guard.room, unsealed.party, unsealed.statement)
 }
 
 // The letter under its sender's seal.
+#[tactic(auto, unfolding(crate::specs::Scratch::cleared))]
 pub fn seal_letter<S: Scheme>(
     scheme: &S,
     change: Change,
@@ -62,10 +52,10 @@ pub fn seal_letter<S: Scheme>(
     ensures sealed { roomy scratch.old ≡ true → accepted (S.Scheme.holds scheme.now) (sender_borne change body (seal_in result)) ≡ true }
     ensures scratch_cleared { scratch.new ≡ scratch_after scratch.old }
 {
-    if scratch.len() < 24 {
+    let Some(room) = scratch.first_chunk_mut::<24>() else {
         return Err(no_room());
-    }
-    let seal = sender_seal(scheme, change, &body, scratch);
+    };
+    let seal = sender_seal(scheme, change, &body, room);
     Ok(Letter { change, body, seal })
 }
 
@@ -75,16 +65,16 @@ fn seal_into<S: Scheme>(
     scheme: &S,
     change: Change,
     body: &Body<Certificate, Basis>,
-    scratch: &mut [u8],
+    room: &mut Room,
     out: &mut [u8],
 ) -> Seal
-    requires { (24 ≤ length scratch.old) × (length (layout (letter change body.now (seal 0))) ≤ length out.old) }
+    requires { length (layout (letter change body.now (seal 0))) ≤ length out.old }
     ensures as_long { length (layout (letter change body.now result)) ≡ length (layout (letter change body.now (seal 0))) }
     ensures sealed { accepted (S.Scheme.holds scheme.now) (sender_borne change body.now result) ≡ true }
     ensures output { out.new ≡ written (layout (letter change body.now result)) out.old }
-    ensures scratch_cleared { scratch.new ≡ cleared scratch.old }
+    ensures room_cleared { room.new ≡ replicate 24 0 }
 {
-    let seal = sender_seal(scheme, change, body, scratch);
+    let seal = sender_seal(scheme, change, body, room);
     let letter = Letter {
         change,
         body: *body,
@@ -96,6 +86,7 @@ fn seal_into<S: Scheme>(
 
 // Seals the letter and writes it over the start of the output buffer. Where a
 // buffer is too small, nothing is touched.
+#[tactic(auto, unfolding(crate::specs::Scratch::cleared))]
 pub fn send<S: Scheme>(
     scheme: &S,
     change: Change,
@@ -108,9 +99,6 @@ pub fn send<S: Scheme>(
     ensures output { out.new ≡ send_buffer (letter change body (seal_of result)) scratch.old out.old }
     ensures scratch_cleared { scratch.new ≡ send_scratch (letter change body (seal_of result)) scratch.old out.old }
 {
-    if scratch.len() < 24 {
-        return Err(no_room());
-    }
     let unsealed = Letter {
         change,
         body,
@@ -120,6 +108,9 @@ pub fn send<S: Scheme>(
     if out.len() < length {
         return Err(no_room());
     }
-    let seal = seal_into(scheme, change, &body, scratch, out);
+    let Some(room) = scratch.first_chunk_mut::<24>() else {
+        return Err(no_room());
+    };
+    let seal = seal_into(scheme, change, &body, room, out);
     Ok(Sent { length, seal })
 }
