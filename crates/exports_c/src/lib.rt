@@ -1,4 +1,5 @@
 // The hashes and the sheet seal under C names, for programs that are not written in Rattle.
+// The C interface needs each of them by its own name here, so each only calls its namesake in `exports`.
 #![tactic(auto)]
 
 ghost use Rattle.std.specs.Prelude.{◌≡◌};

@@ -1,6 +1,6 @@
--- The weighted sum, one byte more; and that of no words at all.
-use Rattle.std.proofs.Common.{◌≡◌, ℕ, zero, suc, ◌+◌, ◌*◌, ◌%◌, ◌^◌, List, [], get_or, refl, ap, add-one, arith}
-use Rattle.schemes.specs.Sheet.{weighted, sheet_sum}
+-- The weighted sum of no bytes, and one byte more.
+use Rattle.std.proofs.Common.{◌≡◌, ℕ, ◌+◌, ◌*◌, ◌%◌, ◌^◌, List, get_or, refl, ap, add-one, arith}
+use Rattle.schemes.specs.Sheet.{weighted}
 
 pub weighted_none : (words bytes : List ℕ) → weighted words bytes 0 ≡ get_or words 0 0
 unfolding weighted
@@ -13,11 +13,3 @@ weighted_more words bytes n s e =
     let x = get_or words (n + 1) 0 * (get_or bytes n 0 + 1) in
     let m : weighted words bytes (n + 1) ≡ weighted words bytes n + x = ap (weighted words bytes) (add-one n) in
     omega arith
-
-zeros : (bytes : List ℕ) (n : ℕ) → weighted [] bytes n ≡ 0
-unfolding weighted
-zeros bytes zero = refl
-zeros bytes (suc n) = omega (arith, zeros bytes n)
-
-pub sheet_of_none : (bytes : List ℕ) → sheet_sum [] bytes ≡ 0
-sheet_of_none bytes = ap (λ n. n % 2 ^ 64) (zeros bytes 24)

@@ -6,8 +6,7 @@ use Rattle.terms.specs.Refusals.{set_up}
 use Rattle.letters.specs.declared.sorts.Seal.{Seal}
 use Rattle.letters.specs.Bytes.{eight_at}
 use Rattle.letters.specs.Sorts.{seal}
-use Rattle.schemes.specs.declared.keys.DigestSeals.{DigestSeals}
-use Rattle.schemes.specs.declared.keys.SheetSeals.{SheetSeals}
+use Rattle.schemes.specs.declared.keys.RowSeals.{RowSeals}
 use Rattle.schemes.specs.Rows.{row_of, enough}
 use Rattle.schemes.specs.Sip.{sip_hash}
 use Rattle.schemes.specs.Sheet.{sheet_sum}
@@ -29,13 +28,9 @@ abbrev pub is_seal : Seal → Seal → Bool
 is_seal y z = y.0 == z.0
 
 -- rows for all parties are taken; fewer are refused
-abbrev pub taken : List (List ℕ) → Result (List (List ℕ)) Refusal
+abbrev pub taken : {R : Type 0} → List R → Result (List R) Refusal
 taken rows = cond (enough rows) (Ok rows) (Err set_up)
 
-abbrev pub keys_of : Result DigestSeals Refusal → Result (List (List ℕ)) Refusal
-keys_of (Ok s) = Ok s.keys.now
-keys_of (Err e) = Err e
-
-abbrev pub sheets_of : Result SheetSeals Refusal → Result (List (List ℕ)) Refusal
-sheets_of (Ok s) = Ok s.sheets.now
-sheets_of (Err e) = Err e
+abbrev pub rows_of : {R : Type 0} → Result (RowSeals R) Refusal → Result (List R) Refusal
+rows_of (Ok s) = Ok s.rows.now
+rows_of (Err e) = Err e

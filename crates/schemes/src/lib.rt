@@ -3,6 +3,7 @@
 
 pub mod digest_seals;
 pub mod keys;
+mod row_seals;
 pub mod scheme;
 pub mod sheet_seals;
 pub mod sip;

@@ -3,6 +3,8 @@ ghost use Rattle.std.specs.Prelude.{◌≡◌, ℕ, ◌+◌, ◌-◌, ◌*◌, �
 ghost use Rattle.letters.specs.Bytes.{eight_at};
 ghost use Rattle.schemes.specs.Sip as Sip;
 
+use std::array;
+
 #[derive(Clone, Copy)]
 pub struct State {
     v0: u64,
@@ -46,28 +48,16 @@ fn turned(s: State) -> State
 fn absorbing(s: State, w: u64) -> State
     ensures { result ≡ Sip.absorb s w }
 {
-    let t = turned(turned(State {
-        v0: s.v0,
-        v1: s.v1,
-        v2: s.v2,
-        v3: s.v3 ^ w,
-    }));
-    State {
-        v0: t.v0 ^ w,
-        v1: t.v1,
-        v2: t.v2,
-        v3: t.v3,
-    }
+    let t = turned(turned(State { v3: s.v3 ^ w, ..s }));
+    State { v0: t.v0 ^ w, ..t }
 }
 
 fn ending(s: State) -> u64
     ensures { result ≡ Sip.finish s }
 {
     let e = turned(turned(turned(turned(State {
-        v0: s.v0,
-        v1: s.v1,
         v2: s.v2 ^ 255,
-        v3: s.v3,
+        ..s
     }))));
     (e.v0 ^ e.v1) ^ (e.v2 ^ e.v3)
 }
@@ -83,51 +73,19 @@ fn started(k0: u64, k1: u64) -> State
     }
 }
 
-// The word in eight bytes that are there.
-pub(crate) fn word_at(m: &[u8], at: usize) -> u64
-    requires { at + 8 ≤ length m.now }
-    ensures { result ≡ eight_at m.now at }
+// The number in the first eight bytes; a byte that is not there counts as 0.
+fn first_word(bytes: &[u8]) -> u64
+    ensures { result ≡ eight_at bytes.now 0 }
 {
-    u64::from_le_bytes([
-        m[at],
-        m[at + 1],
-        m[at + 2],
-        m[at + 3],
-        m[at + 4],
-        m[at + 5],
-        m[at + 6],
-        m[at + 7],
-    ])
+    u64::from_le_bytes(array::from_fn(|i| bytes.get(i).copied().unwrap_or(0)))
 }
 
-// The byte `ahead` of an offset, or 0 past the end.
-fn byte_or_zero(m: &[u8], at: usize, ahead: usize) -> u8
-    ensures { result ≡ slice_index m.now (at + ahead) }
-{
-    if at >= m.len() {
-        return 0;
-    }
-    if ahead >= m.len() - at {
-        return 0;
-    }
-    m[at + ahead]
-}
-
+// What is left of a message after its whole words, and the message's length in the top byte.
 fn last_word(m: &[u8]) -> u64
     ensures { result ≡ Sip.last_word m.now }
 {
-    let at = m.len() / 8 * 8;
-    let left = u64::from_le_bytes([
-        byte_or_zero(m, at, 0),
-        byte_or_zero(m, at, 1),
-        byte_or_zero(m, at, 2),
-        byte_or_zero(m, at, 3),
-        byte_or_zero(m, at, 4),
-        byte_or_zero(m, at, 5),
-        byte_or_zero(m, at, 6),
-        byte_or_zero(m, at, 7),
-    ]);
-    left | (m.len() as u64 % 256) << 56
+    let (_, rest) = m.as_chunks::<8>();
+    first_word(rest) | (m.len() as u64 % 256) << 56
 }
 
 // The hash of a message under the two words of a key.
@@ -135,8 +93,8 @@ pub fn sip_hash(k0: u64, k1: u64, m: &[u8]) -> u64
     ensures { result ≡ Sip.sip_hash k0 k1 m.now }
 {
     let mut s = started(k0, k1);
-    for i in 0..m.len() / 8 {
-        s = absorbing(s, word_at(m, i * 8));
+    for word in m.as_chunks::<8>().0 {
+        s = absorbing(s, u64::from_le_bytes(*word));
     }
     ending(absorbing(s, last_word(m)))
 }
