@@ -8,6 +8,9 @@ use crate::drafts::Draft;
 use crate::maps::map_of;
 use letters::bodies::Body;
 use letters::certificates::{Basis, Certificate};
+use letters::maps::{
+    ANSWER, BASIS, CERTIFICATE, COMMON, DIGEST, MOVERS, NUMBER, OFFICE_SEAL, PLACE, VIEW,
+};
 use letters::sorts::{Answer, Digest, Kind, Seal, SeatSet};
 use letters::statements::outcome_number;
 use terms::numbers::{Change, KeyNumber, Place, Seat, View};
@@ -15,27 +18,6 @@ use terms::parties::{Outcome, Party};
 
 // No body is longer than a move with a number, a basis and a full certificate.
 type BodyDraft = Draft<293>;
-
-// The bits of a letter's map. Every letter has kind, change, sender and seal.
-const COMMON: u16 = (1 << 0) + (1 << 1) + (1 << 2) + (1 << 12);
-
-const PLACE: u16 = 1 << 3;
-
-const VIEW: u16 = 1 << 4;
-
-const NUMBER: u16 = 1 << 5;
-
-const ANSWER: u16 = 1 << 6;
-
-const DIGEST: u16 = 1 << 7;
-
-const OFFICE_SEAL: u16 = 1 << 8;
-
-const BASIS: u16 = 1 << 9;
-
-const CERTIFICATE: u16 = 1 << 10;
-
-const MOVERS: u16 = 1 << 11;
 
 fn number_bit(number: Option<KeyNumber>) -> u16
     ensures bit { result ≡ Layout.number_bit number }
