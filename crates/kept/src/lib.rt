@@ -11,6 +11,7 @@ use letters::bodies::Body;
 use letters::certificates::{Basis, Certificate, Order, Vote};
 use letters::sorts::{Answer, Seal};
 use reading::parts::{Grounds, Part};
+use std::array;
 use terms::numbers::{KeyNumber, View};
 
 fn byte_at(bytes: &[u8], at: usize) -> u8
@@ -19,41 +20,25 @@ fn byte_at(bytes: &[u8], at: usize) -> u8
     bytes.get(at).copied().unwrap_or(0)
 }
 
-// Two, four and eight bytes at an offset, in three functions: each byte past the end counts as 0, so that no
-// chunk of the bytes stands for them.
 fn two_at(bytes: &[u8], at: usize) -> u16
     requires { at < 1000 }
     ensures { result ≡ two_at bytes.now at }
 {
-    u16::from_le_bytes([byte_at(bytes, at), byte_at(bytes, at + 1)])
+    u16::from_le_bytes(array::from_fn(|k| byte_at(bytes, at + k)))
 }
 
 fn four_at(bytes: &[u8], at: usize) -> u32
     requires { at < 1000 }
     ensures { result ≡ four_at bytes.now at }
 {
-    u32::from_le_bytes([
-        byte_at(bytes, at),
-        byte_at(bytes, at + 1),
-        byte_at(bytes, at + 2),
-        byte_at(bytes, at + 3),
-    ])
+    u32::from_le_bytes(array::from_fn(|k| byte_at(bytes, at + k)))
 }
 
 fn eight_at(bytes: &[u8], at: usize) -> u64
     requires { at < 1000 }
     ensures { result ≡ eight_at bytes.now at }
 {
-    u64::from_le_bytes([
-        byte_at(bytes, at),
-        byte_at(bytes, at + 1),
-        byte_at(bytes, at + 2),
-        byte_at(bytes, at + 3),
-        byte_at(bytes, at + 4),
-        byte_at(bytes, at + 5),
-        byte_at(bytes, at + 6),
-        byte_at(bytes, at + 7),
-    ])
+    u64::from_le_bytes(array::from_fn(|k| byte_at(bytes, at + k)))
 }
 
 fn row_at(stands: bool, bytes: &[u8], at: usize) -> Option<Seal>
