@@ -8,7 +8,10 @@ mkdir -p target/staticlib
     cat target/staticlib.log >&2
     exit 1
 }
-cp crates/exports_c/out/libexports_c.a target/staticlib/libexports.a
+# Named by its content, so that the program is linked anew when the hashes have changed.
+rm -f target/staticlib/*.a
+sum=$(sha256sum crates/exports_c/out/libexports_c.a | cut -c1-16)
+cp crates/exports_c/out/libexports_c.a "target/staticlib/libexports-$sum.a"
 cargo rustc --offline --quiet --release --manifest-path bench/Cargo.toml --target-dir target/bench -- \
-    -C link-arg="$PWD/target/staticlib/libexports.a"
+    -C link-arg="$PWD/target/staticlib/libexports-$sum.a"
 target/bench/release/bench
