@@ -1,6 +1,7 @@
 // The rules of a controller: guards in order, then what it becomes and what it sends.
 ghost use Rattle.std.specs.Prelude.{◌≡◌, ℕ, ◌+◌, ◌*◌, ◌<◌, ◌≤◌, length};
 ghost use Rattle.controllers.specs.Rules as Rules;
+ghost use Rattle.posting.specs.Replies as Replies;
 
 use crate::controller::{Controller, MoveRecord, Proposal, Round};
 use crate::counts::{all_recorded, choose, covers};
@@ -8,19 +9,12 @@ use ballots::{Pair, entry, put, tally};
 use letters::bodies::Body;
 use letters::certificates::{Basis, Certificate, Order, Vote};
 use letters::sorts::{Answer, Digest, Seal, SeatSet};
+use posting::few::AtMostTwo;
 use terms::numbers::{Change, KeyNumber, Place, Seat, View};
 use terms::parties::Outcome;
 use terms::refusals::RuleCause;
 use terms::sizes::Sizes;
 use writing::certificates::certificate_digest;
-
-// What is to be sent: nothing, one letter, or two.
-#[derive(Clone, Copy)]
-pub enum Bodies {
-    Nothing,
-    One(Body<Certificate, Basis>),
-    Two(Body<Certificate, Basis>, Body<Certificate, Basis>),
-}
 
 fn same_number(a: Option<KeyNumber>, b: Option<KeyNumber>) -> bool
     ensures { result ≡ Rules.same_number a b }
@@ -44,12 +38,16 @@ fn may_order(held: Option<Order>, number: Option<KeyNumber>) -> Result<(), RuleC
     Err(RuleCause::Differs)
 }
 
-fn summons(sender: Seat, number: Option<KeyNumber>, office_seal: Seal) -> Bodies
+fn summons(
+    sender: Seat,
+    number: Option<KeyNumber>,
+    office_seal: Seal,
+) -> AtMostTwo<Body<Certificate, Basis>>
     ensures { result ≡ Rules.summons sender number office_seal }
 {
     match number {
-        None => Bodies::Nothing,
-        Some(number) => Bodies::One(Body::Summons {
+        None => AtMostTwo::Nothing,
+        Some(number) => AtMostTwo::One(Body::Summons {
             sender,
             number,
             office_seal,
@@ -80,13 +78,17 @@ impl Controller {
     }
 
     // A lock enrols: its place is registered.
-    pub(crate) fn take_enrol(&mut self, place: Place, seal: Seal) -> Result<Bodies, RuleCause>
-        ensures answer { result ≡ Rules.sends (Rules.enrol_rule self.old place seal) }
-        ensures unit { self.new ≡ Rules.after self.old (Rules.enrol_rule self.old place seal) }
+    pub(crate) fn take_enrol(
+        &mut self,
+        place: Place,
+        seal: Seal,
+    ) -> Result<AtMostTwo<Body<Certificate, Basis>>, RuleCause>
+        ensures answer { result ≡ Replies.sends (Rules.enrol_rule self.old place seal) }
+        ensures unit { self.new ≡ Replies.after self.old (Rules.enrol_rule self.old place seal) }
     {
         self.may_enrol(place)?;
         put(&mut self.registered, place.number(), Some(seal));
-        Ok(Bodies::One(Body::Receipt {
+        Ok(AtMostTwo::One(Body::Receipt {
             sender: self.seat,
             place,
         }))
@@ -97,9 +99,9 @@ impl Controller {
         &mut self,
         number: Option<KeyNumber>,
         seal: Seal,
-    ) -> Result<Bodies, RuleCause>
-        ensures answer { result ≡ Rules.sends (Rules.order_rule self.old number seal) }
-        ensures unit { self.new ≡ Rules.after self.old (Rules.order_rule self.old number seal) }
+    ) -> Result<AtMostTwo<Body<Certificate, Basis>>, RuleCause>
+        ensures answer { result ≡ Replies.sends (Rules.order_rule self.old number seal) }
+        ensures unit { self.new ≡ Replies.after self.old (Rules.order_rule self.old number seal) }
     {
         may_order(self.order, number)?;
         self.order = Some(Order { number, seal });
@@ -131,12 +133,12 @@ impl Controller {
         number: KeyNumber,
         answer: Answer,
         seal: Seal,
-    ) -> Result<Bodies, RuleCause>
-        ensures answer { result ≡ Rules.sends (Rules.vote_rule self.old place number answer seal) }
-        ensures unit { self.new ≡ Rules.after self.old (Rules.vote_rule self.old place number answer seal) }
+    ) -> Result<AtMostTwo<Body<Certificate, Basis>>, RuleCause>
+        ensures answer { result ≡ Replies.sends (Rules.vote_rule self.old place number answer seal) }
+        ensures unit { self.new ≡ Replies.after self.old (Rules.vote_rule self.old place number answer seal) }
     {
         self.may_vote(place, number)?;
         put(&mut self.votes, place.number(), Some(Vote { answer, seal }));
-        Ok(Bodies::Nothing)
+        Ok(AtMostTwo::Nothing)
     }
 }

@@ -1,14 +1,15 @@
 // The rules of a controller on proposals, assents, confirms and views.
 ghost use Rattle.std.specs.Prelude.{◌≡◌, ℕ, ◌+◌, ◌*◌, ◌<◌, ◌≤◌, length, Ok};
 ghost use Rattle.controllers.specs.Rules as Rules;
+ghost use Rattle.posting.specs.Replies as Replies;
 
 use crate::controller::{Controller, Draft, MoveRecord, Proposal, Round};
 use crate::counts::{all_recorded, choose, covers, pick};
-use crate::rules::Bodies;
 use ballots::{Ballot, Pair, entry, put, tally};
 use letters::bodies::Body;
 use letters::certificates::{Basis, Certificate, Order};
 use letters::sorts::{Digest, Seal, SeatSet};
+use posting::few::AtMostTwo;
 use terms::numbers::{Change, Seat, View};
 use terms::parties::Outcome;
 use terms::refusals::RuleCause;
@@ -24,7 +25,7 @@ fn or_else(held: Option<Order>, other: Order) -> Option<Order>
     }
 }
 
-fn empty_round() -> Round
+pub(crate) fn empty_round() -> Round
     ensures { result ≡ Rules.empty_round }
 {
     Round {
@@ -257,20 +258,20 @@ impl Controller {
     }
 
     // With 2f assents recorded the controller confirms.
-    fn confirming(&mut self, sizes: Sizes, pair: Pair) -> Bodies
-        ensures answer { Ok result ≡ Rules.sends (Rules.confirming sizes self.old pair self.old.round.proposal) }
-        ensures unit { self.new ≡ Rules.after self.old (Rules.confirming sizes self.old pair self.old.round.proposal) }
+    fn confirming(&mut self, sizes: Sizes, pair: Pair) -> AtMostTwo<Body<Certificate, Basis>>
+        ensures answer { Ok result ≡ Replies.sends (Rules.confirming sizes self.old pair self.old.round.proposal) }
+        ensures unit { self.new ≡ Replies.after self.old (Rules.confirming sizes self.old pair self.old.round.proposal) }
     {
         let Some(held) = self.round.proposal else {
-            return Bodies::Nothing;
+            return AtMostTwo::Nothing;
         };
         let confirm = self.confirm_body(pair);
         let result = self.result_body(pair);
         self.confirm_own(held, pair);
         if !self.conclude(sizes, pair) {
-            return Bodies::One(confirm);
+            return AtMostTwo::One(confirm);
         }
-        Bodies::Two(confirm, result)
+        AtMostTwo::Two(confirm, result)
     }
 
     // A controller assents to the held proposal.
@@ -281,14 +282,14 @@ impl Controller {
         view: View,
         pair: Pair,
         seal: Seal,
-    ) -> Result<Bodies, RuleCause>
-        ensures answer { result ≡ Rules.sends (Rules.assent_rule sizes self.old seat view pair seal) }
-        ensures unit { self.new ≡ Rules.after self.old (Rules.assent_rule sizes self.old seat view pair seal) }
+    ) -> Result<AtMostTwo<Body<Certificate, Basis>>, RuleCause>
+        ensures answer { result ≡ Replies.sends (Rules.assent_rule sizes self.old seat view pair seal) }
+        ensures unit { self.new ≡ Replies.after self.old (Rules.assent_rule sizes self.old seat view pair seal) }
     {
         self.may_assent(sizes, seat, view, pair)?;
         self.round.record_assent(seat, pair, seal);
         if tally(&self.round.assents, &pair) < 2 * sizes.faults() as usize {
-            return Ok(Bodies::Nothing);
+            return Ok(AtMostTwo::Nothing);
         }
         Ok(self.confirming(sizes, pair))
     }
@@ -322,22 +323,22 @@ impl Controller {
         seat: Seat,
         view: View,
         pair: Pair,
-    ) -> Result<Bodies, RuleCause>
-        ensures answer { result ≡ Rules.sends (Rules.confirm_rule sizes self.old seat view pair) }
-        ensures unit { self.new ≡ Rules.after self.old (Rules.confirm_rule sizes self.old seat view pair) }
+    ) -> Result<AtMostTwo<Body<Certificate, Basis>>, RuleCause>
+        ensures answer { result ≡ Replies.sends (Rules.confirm_rule sizes self.old seat view pair) }
+        ensures unit { self.new ≡ Replies.after self.old (Rules.confirm_rule sizes self.old seat view pair) }
     {
         self.may_confirm(seat, view, pair)?;
         self.round.record_confirm(seat, pair);
         let result = self.result_body(pair);
         if !self.conclude(sizes, pair) {
-            return Ok(Bodies::Nothing);
+            return Ok(AtMostTwo::Nothing);
         }
-        Ok(Bodies::One(result))
+        Ok(AtMostTwo::One(result))
     }
 
     // Enters a view: the round is forgotten, the own record stored with the own basis.
-    fn enter_view(&mut self, view: View) -> Bodies
-        ensures answer { Ok result ≡ Rules.sends (Rules.enter_view self.old view) }
+    fn enter_view(&mut self, view: View) -> AtMostTwo<Body<Certificate, Basis>>
+        ensures answer { Ok result ≡ Replies.sends (Rules.enter_view self.old view) }
         ensures unit { self.new ≡ Rules.entered self.old view }
     {
         let record = MoveRecord {
@@ -347,7 +348,7 @@ impl Controller {
         self.view = view;
         self.round = empty_round();
         put(&mut self.records, self.seat.number(), Some(record));
-        Bodies::One(Body::Move {
+        AtMostTwo::One(Body::Move {
             sender: self.seat,
             view,
             basis: self.basis,
@@ -385,9 +386,9 @@ impl Controller {
         seat: Seat,
         view: View,
         basis: Option<Basis>,
-    ) -> Result<Bodies, RuleCause>
-        ensures answer { result ≡ Rules.sends (Rules.move_rule sizes self.old seat view basis) }
-        ensures unit { self.new ≡ Rules.after self.old (Rules.move_rule sizes self.old seat view basis) }
+    ) -> Result<AtMostTwo<Body<Certificate, Basis>>, RuleCause>
+        ensures answer { result ≡ Replies.sends (Rules.move_rule sizes self.old seat view basis) }
+        ensures unit { self.new ≡ Replies.after self.old (Rules.move_rule sizes self.old seat view basis) }
     {
         self.may_move(seat, view, &basis)?;
         put(
@@ -400,13 +401,13 @@ impl Controller {
         {
             return Ok(self.enter_view(view));
         }
-        Ok(Bodies::Nothing)
+        Ok(AtMostTwo::Nothing)
     }
 
     // The view has lasted too long: the controller enters the next one.
-    pub(crate) fn take_ring(&mut self) -> Result<Bodies, RuleCause>
-        ensures answer { result ≡ Rules.sends (Rules.ring_rule self.old) }
-        ensures unit { self.new ≡ Rules.after self.old (Rules.ring_rule self.old) }
+    pub(crate) fn take_ring(&mut self) -> Result<AtMostTwo<Body<Certificate, Basis>>, RuleCause>
+        ensures answer { result ≡ Replies.sends (Rules.ring_rule self.old) }
+        ensures unit { self.new ≡ Replies.after self.old (Rules.ring_rule self.old) }
     {
         if self.view.number() >= 255 {
             return Err(RuleCause::LastView);

@@ -8,6 +8,7 @@ use boards::board::Board;
 use letters::bodies::Body;
 use letters::certificates::{Basis, Certificate};
 use letters::sorts::Answer;
+use posting::few::AtMostTwo;
 use terms::numbers::{KeyNumber, Place, Seat};
 use terms::parties::Outcome;
 use terms::refusals::RuleCause;
@@ -39,13 +40,13 @@ impl Lock {
     }
 
     // The lock enrols: it applies.
-    pub(crate) fn apply(&mut self) -> Result<Option<Body<Certificate, Basis>>, RuleCause>
+    pub(crate) fn apply(&mut self) -> Result<AtMostTwo<Body<Certificate, Basis>>, RuleCause>
         ensures answer { result ≡ Rules.sends (Rules.enrol_rule self.old) }
         ensures lock { self.new ≡ Rules.lock_after self.old (Rules.enrol_rule self.old) }
     {
         self.may_apply()?;
         self.standing = Standing::Applied;
-        Ok(Some(Body::Enrol { sender: self.place }))
+        Ok(AtMostTwo::One(Body::Enrol { sender: self.place }))
     }
 
     fn may_receipt(&self, seat: Seat, place: Place) -> Result<(), RuleCause>
@@ -69,7 +70,7 @@ impl Lock {
         sizes: Sizes,
         seat: Seat,
         place: Place,
-    ) -> Result<Option<Body<Certificate, Basis>>, RuleCause>
+    ) -> Result<AtMostTwo<Body<Certificate, Basis>>, RuleCause>
         ensures answer { result ≡ Rules.sends (Rules.receipt_rule sizes self.old seat place) }
         ensures lock { self.new ≡ Rules.lock_after self.old (Rules.receipt_rule sizes self.old seat place) }
     {
@@ -78,7 +79,7 @@ impl Lock {
         if tally(&self.receipts, &Receipted) >= sizes.quorum() as usize {
             self.standing = Standing::Enrolled;
         }
-        Ok(None)
+        Ok(AtMostTwo::Nothing)
     }
 
     fn may_decline(&self) -> Result<(), RuleCause>
@@ -91,13 +92,13 @@ impl Lock {
     }
 
     // The lock will not take part: it keeps its number.
-    pub(crate) fn take_decline(&mut self) -> Result<Option<Body<Certificate, Basis>>, RuleCause>
+    pub(crate) fn take_decline(&mut self) -> Result<AtMostTwo<Body<Certificate, Basis>>, RuleCause>
         ensures answer { result ≡ Rules.sends (Rules.decline_rule self.old) }
         ensures lock { self.new ≡ Rules.lock_after self.old (Rules.decline_rule self.old) }
     {
         self.may_decline()?;
         self.standing = Standing::Kept;
-        Ok(None)
+        Ok(AtMostTwo::Nothing)
     }
 
     fn may_summon(&self) -> Result<(), RuleCause>
@@ -117,7 +118,7 @@ impl Lock {
         &mut self,
         board: &mut B,
         number: KeyNumber,
-    ) -> Result<Option<Body<Certificate, Basis>>, RuleCause>
+    ) -> Result<AtMostTwo<Body<Certificate, Basis>>, RuleCause>
         ensures answer { result ≡ Rules.sends (Rules.summons_rule self.old (B.Board.meaning board.old) number) }
         ensures lock { self.new ≡ Rules.lock_after self.old (Rules.summons_rule self.old (B.Board.meaning board.old) number) }
         ensures board { B.Board.meaning board.new ≡ Rules.board_after (B.Board.meaning board.old) self.old.place (Rules.summons_rule self.old (B.Board.meaning board.old) number) }
@@ -126,14 +127,14 @@ impl Lock {
         let sender = self.place;
         if board.stage(sender, number) {
             self.standing = Standing::Ready;
-            return Ok(Some(Body::Vote {
+            return Ok(AtMostTwo::One(Body::Vote {
                 sender,
                 number,
                 answer: Answer::Ready,
             }));
         }
         self.standing = Standing::Kept;
-        Ok(Some(Body::Vote {
+        Ok(AtMostTwo::One(Body::Vote {
             sender,
             number,
             answer: Answer::Refuse,
@@ -190,7 +191,7 @@ impl Lock {
         board: &mut B,
         seat: Seat,
         outcome: Outcome,
-    ) -> Result<Option<Body<Certificate, Basis>>, RuleCause>
+    ) -> Result<AtMostTwo<Body<Certificate, Basis>>, RuleCause>
         ensures answer { result ≡ Rules.sends (Rules.result_rule sizes self.old (B.Board.meaning board.old) seat outcome) }
         ensures lock { self.new ≡ Rules.lock_after self.old (Rules.result_rule sizes self.old (B.Board.meaning board.old) seat outcome) }
         ensures board { B.Board.meaning board.new ≡ Rules.board_after (B.Board.meaning board.old) self.old.place (Rules.result_rule sizes self.old (B.Board.meaning board.old) seat outcome) }
@@ -198,10 +199,10 @@ impl Lock {
         self.may_result(board.staged(self.place), seat, outcome)?;
         put(&mut self.results, seat.number(), Some(outcome));
         if tally(&self.results, &outcome) < sizes.faults() as usize + 1 {
-            return Ok(None);
+            return Ok(AtMostTwo::Nothing);
         }
         self.end(board, outcome);
-        Ok(None)
+        Ok(AtMostTwo::Nothing)
     }
 }
 

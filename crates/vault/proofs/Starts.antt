@@ -8,10 +8,10 @@ use Rattle.terms.specs.Numbers.{is_change, change, seat, place, within, key}
 use Rattle.terms.specs.Refusals.{set_up}
 use Rattle.terms.specs.Sizes.{counts, seat_count}
 use Rattle.boards.specs.Boards.{Meaning, how_many, has_staged, staged_at, staged_of, idle}
-use Rattle.controllerunits.specs.declared.controller.Controller.{Controller}
-use Rattle.controllerunits.specs.Letters.{fresh_controller}
-use Rattle.lockunits.specs.declared.lock.Lock.{Lock}
-use Rattle.lockunits.specs.Fresh.{fresh_lock}
+use Rattle.controllers.specs.declared.controller.Controller.{Controller}
+use Rattle.controllers.specs.Letters.{fresh_controller}
+use Rattle.locks.specs.declared.lock.Lock.{Lock}
+use Rattle.locks.specs.Fresh.{fresh_lock}
 use Rattle.office.specs.Rules.{office}
 use Rattle.seals.specs.Opening.{Relation}
 use Rattle.agreement.specs.Runs.{SetUp}

@@ -20,10 +20,10 @@ use Rattle.posting.specs.Calls.{Goes, has_room, pointed, reply_sealed}
 use Rattle.posting.specs.Posting.{no_seals}
 use Rattle.posting.specs.Replies.{Bodies, Reply, refused, served}
 use Rattle.posting.proofs.Goes.{scratch_room}
-use Rattle.controllerunits.specs.declared.controller.Controller.{Controller}
-use Rattle.lockunits.specs.declared.lock.Lock.{Lock}
-use Rattle.lockunits.specs.Rules as Lock-rules
-use Rattle.lockunits.specs.Rules.{replied, board_after, board_called, nothing, passing, enrol_rule, may_apply, decline_rule, may_decline}
+use Rattle.controllers.specs.declared.controller.Controller.{Controller}
+use Rattle.locks.specs.declared.lock.Lock.{Lock}
+use Rattle.locks.specs.Rules as Lock-rules
+use Rattle.locks.specs.Rules.{replied, board_after, board_called, nothing, passing, enrol_rule, may_apply, decline_rule, may_decline}
 use Rattle.office.specs.declared.Office.{Office}
 use Rattle.agreement.specs.Calls.{Vault, State, Call, Went, went, Turn, halted, unopened, of_controller, of_lock, of_office, asks_controller, asks_lock, controller_at, lock_at, no_such_unit, turn_of, turn_went, turn_sealed, controller_went, lock_went, office_went, step, Step}
 use Rattle.vault.specs.Vaults.{reach, Turned}

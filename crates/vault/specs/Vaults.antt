@@ -6,8 +6,8 @@ use Rattle.seals.specs.Opening.{Relation}
 use Rattle.boards.specs.Boards.{Meaning}
 use Rattle.posting.specs.declared.few.Seals.{Seals}
 use Rattle.posting.specs.Posting.{are_words}
-use Rattle.controllerunits.specs.declared.controller.Controller.{Controller}
-use Rattle.lockunits.specs.declared.lock.Lock.{Lock}
+use Rattle.controllers.specs.declared.controller.Controller.{Controller}
+use Rattle.locks.specs.declared.lock.Lock.{Lock}
 use Rattle.agreement.specs.Calls as Calls
 use Rattle.agreement.specs.Calls.{State, Request, Call, Went, Turn, turn_went, turn_sealed, handed_to, no_such_unit}
 use Rattle.vault.specs.declared.vault.Vault.{Vault}

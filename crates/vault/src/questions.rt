@@ -4,8 +4,8 @@ ghost use Rattle.vault.specs.Questions as Questions;
 
 use crate::vault::Vault;
 use boards::board::Board;
-use controllerunits::controller::Controller;
-use lockunits::lock::{Lock, Standing};
+use controllers::controller::Controller;
+use locks::lock::{Lock, Standing};
 use terms::numbers::{KeyNumber, View};
 use terms::parties::Outcome;
 

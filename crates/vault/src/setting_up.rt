@@ -6,8 +6,8 @@ ghost use Rattle.vault.specs.SetUps as SetUps;
 
 use crate::vault::Vault;
 use boards::board::Board;
-use controllerunits::controller::Controller;
-use lockunits::lock::Lock;
+use controllers::controller::Controller;
+use locks::lock::Lock;
 use office::Office;
 use terms::numbers::{Change, Place, Seat};
 use terms::refusals::{Refusal, set_up as cannot_set_up};

@@ -1,5 +1,5 @@
 use Rattle.std.proofs.Common.{rules}
-use Rattle.lockunits.specs.Rules.{decline_rule}
+use Rattle.locks.specs.Rules.{decline_rule}
 use Rattle.agreement.specs.Calls.{declines}
 use Rattle.vault.specs.Vaults.{constant, state, call}
 use Rattle.vault.proofs.Steps.{step_by, quiet_lock_goes, decline_quiet, no_such_step, asks_lock_holds, asks_no_lock, reached}
@@ -19,4 +19,4 @@ returns-in-Ok g c =
     let found = asks_lock_holds s v.sizes n _ c.in-Ok.at c.in-Ok.ensures.value in
     let asked = call (declines n) c.args.out.now c.args.scratch.now in
     step_by v s asked _ _ found.0
-    (quiet_lock_goes v s asked n c.in-Ok.at 0 _ decline_rule _ found.1 (reached n _ _ _ c.in-Ok.ensures.value) c.decline.ensures decline_quiet)
+    (quiet_lock_goes v s asked n c.in-Ok.at 0 _ decline_rule _ found.1 (reached n _ _ _ c.in-Ok.ensures.value) c.decline.ensures.call decline_quiet)

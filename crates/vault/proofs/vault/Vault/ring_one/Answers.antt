@@ -1,6 +1,6 @@
 use Rattle.std.proofs.Common.{rules}
 use Rattle.posting.specs.Calls.{pointed}
-use Rattle.controllerunits.specs.Rules.{ring_rule}
+use Rattle.controllers.specs.Rules.{ring_rule}
 use Rattle.agreement.specs.Calls.{rings}
 use Rattle.vault.specs.Vaults.{constant, state, call}
 use Rattle.vault.proofs.Steps.{step_by, controller_goes, no_such_step, asks_controller_holds, asks_no_controller, reached}

@@ -1,7 +1,7 @@
 use Rattle.std.proofs.Common.{◌≡◌, length, Some, None, sym, ap, ◌∙◌}
 use Rattle.terms.specs.Numbers.{place}
-use Rattle.lockunits.specs.declared.lock.Lock.{Lock}
-use Rattle.lockunits.specs.Fresh.{fresh_lock}
+use Rattle.locks.specs.declared.lock.Lock.{Lock}
+use Rattle.locks.specs.Fresh.{fresh_lock}
 use Rattle.vault.proofs.Steps.{asked_at}
 use Rattle.vault.proofs.vault.Vault.standing.Goals as goal
 

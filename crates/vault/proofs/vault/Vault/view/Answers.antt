@@ -1,8 +1,8 @@
 use Rattle.std.proofs.Common.{◌≡◌, length, Some, None, sym, ap, ◌∙◌}
 use Rattle.terms.specs.Numbers.{seat}
 use Rattle.terms.specs.Sizes.{seat_count}
-use Rattle.controllerunits.specs.declared.controller.Controller.{Controller}
-use Rattle.controllerunits.specs.Letters.{fresh_controller}
+use Rattle.controllers.specs.declared.controller.Controller.{Controller}
+use Rattle.controllers.specs.Letters.{fresh_controller}
 use Rattle.vault.proofs.Steps.{asked_at}
 use Rattle.vault.proofs.vault.Vault.view.Goals as goal
 
