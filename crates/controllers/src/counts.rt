@@ -19,7 +19,7 @@ impl Ballot for MoveRecord {
     ghost agrees_across = { Prim.search rules };
 
     fn agrees(&self, other: &MoveRecord) -> bool {
-        self.view.number() == other.view.number()
+        self.view == other.view
     }
 }
 
@@ -34,10 +34,7 @@ fn stands(map: u16, seat: u8) -> bool
 pub(crate) fn names(slot: Option<MoveRecord>, view: View) -> bool
     ensures { result ≡ Choice.names slot view }
 {
-    match slot {
-        Some(record) => record.view.number() == view.number(),
-        None => false,
-    }
+    slot.is_some_and(|record| record.view == view)
 }
 
 // The basis that a mover's record of a view has.
@@ -47,10 +44,7 @@ fn offer(mover: bool, slot: Option<MoveRecord>, view: View) -> Option<Basis>
     if !mover || !names(slot, view) {
         return None;
     }
-    match slot {
-        Some(record) => record.basis,
-        None => None,
-    }
+    slot.and_then(|record| record.basis)
 }
 
 // The one with the higher view; at a tie the first.
@@ -63,7 +57,7 @@ fn better(best: Option<Basis>, next: Option<Basis>) -> Option<Basis>
     let Some(held) = best else {
         return Some(next);
     };
-    if held.view.number() < next.view.number() {
+    if held.view < next.view {
         Some(next)
     } else {
         Some(held)

@@ -223,7 +223,7 @@ impl Controller {
     {
         require_room(out.len(), scratch.len())?;
         let sender = sender_number(&letter.body);
-        if letter.change.number() != change.number() {
+        if letter.change != change {
             clear(scratch);
             return Err(refused_by_rule(RuleCause::OtherChange, sender));
         }

@@ -16,23 +16,13 @@ use terms::refusals::RuleCause;
 use terms::sizes::Sizes;
 use writing::certificates::certificate_digest;
 
-fn same_number(a: Option<KeyNumber>, b: Option<KeyNumber>) -> bool
-    ensures { result ≡ Rules.same_number a b }
-{
-    match (a, b) {
-        (None, None) => true,
-        (Some(m), Some(n)) => m.value() == n.value(),
-        _ => false,
-    }
-}
-
 fn may_order(held: Option<Order>, number: Option<KeyNumber>) -> Result<(), RuleCause>
     ensures { result ≡ Rules.may_order held number }
 {
     let Some(held) = held else {
         return Ok(());
     };
-    if same_number(held.number, number) {
+    if held.number == number {
         return Err(RuleCause::Repeated);
     }
     Err(RuleCause::Differs)
@@ -58,10 +48,7 @@ fn summons(
 fn ordered_number(order: Option<Order>) -> Option<KeyNumber>
     ensures { result ≡ Rules.ordered_number order }
 {
-    match order {
-        Some(order) => order.number,
-        None => None,
-    }
+    order.and_then(|order| order.number)
 }
 
 impl Controller {
@@ -117,7 +104,7 @@ impl Controller {
         if entry(&self.registered, place.number()).is_none() {
             return Err(RuleCause::OutOfTurn);
         }
-        if ordered.value() != number.value() {
+        if ordered != number {
             return Err(RuleCause::Differs);
         }
         if entry(&self.votes, place.number()).is_some() {

@@ -7,7 +7,7 @@ use crate::controller::{Controller, Draft, MoveRecord, Proposal, Round};
 use crate::counts::{all_recorded, choose, covers, pick};
 use ballots::{Ballot, Pair, entry, put, tally};
 use letters::bodies::Body;
-use letters::certificates::{Basis, Certificate, Order};
+use letters::certificates::{Basis, Certificate};
 use letters::sorts::{Digest, Seal, SeatSet};
 use posting::few::AtMostTwo;
 use terms::numbers::{Change, Seat, View};
@@ -15,15 +15,6 @@ use terms::parties::Outcome;
 use terms::refusals::RuleCause;
 use terms::sizes::Sizes;
 use writing::certificates::certificate_digest;
-
-fn or_else(held: Option<Order>, other: Order) -> Option<Order>
-    ensures { result ≡ Rules.or_else held other }
-{
-    match held {
-        Some(held) => Some(held),
-        None => Some(other),
-    }
-}
 
 pub(crate) fn empty_round() -> Round
     ensures { result ≡ Rules.empty_round }
@@ -39,19 +30,13 @@ pub(crate) fn empty_round() -> Round
 fn names_from(slot: Option<MoveRecord>, view: View) -> bool
     ensures { result ≡ Rules.names_from slot view }
 {
-    match slot {
-        Some(record) => record.view.number() >= view.number(),
-        None => false,
-    }
+    slot.is_some_and(|record| record.view >= view)
 }
 
 fn false_basis(basis: &Option<Basis>) -> bool
     ensures { result ≡ Rules.false_basis basis.now }
 {
-    match basis {
-        Some(basis) => !basis.certificate.result().agrees(&basis.outcome),
-        None => false,
-    }
+    basis.is_some_and(|basis| !basis.certificate.result().agrees(&basis.outcome))
 }
 
 impl Round {
@@ -113,7 +98,7 @@ impl Controller {
     pub(crate) fn leads(&self, sizes: Sizes, change: Change) -> bool
         ensures { result ≡ Rules.leads sizes change self.now }
     {
-        sizes.leader(change, self.view).number() == self.seat.number()
+        sizes.leader(change, self.view) == self.seat
     }
 
     pub(crate) fn may_hold(
@@ -128,7 +113,7 @@ impl Controller {
     ) -> Result<(), RuleCause>
         ensures { result ≡ Rules.may_hold sizes change self.now view outcome certificate.now digest movers }
     {
-        if view.number() != self.view.number() {
+        if view != self.view {
             return Err(RuleCause::OtherView);
         }
         if self.leads(sizes, change) {
@@ -150,7 +135,7 @@ impl Controller {
     pub(crate) fn hold(&mut self, proposal: Proposal)
         ensures { self.new ≡ Rules.hold self.old proposal }
     {
-        self.order = or_else(self.order, proposal.certificate.order);
+        self.order = self.order.or(Some(proposal.certificate.order));
         self.round.proposal = Some(proposal);
     }
 
@@ -170,10 +155,7 @@ impl Controller {
     fn confirmed_here(&self) -> bool
         ensures { result ≡ Rules.confirmed_here self.now }
     {
-        match self.basis {
-            Some(basis) => basis.view.number() == self.view.number(),
-            None => false,
-        }
+        self.basis.is_some_and(|basis| basis.view == self.view)
     }
 
     fn concludes(&self, sizes: Sizes, pair: Pair) -> bool
@@ -199,7 +181,7 @@ impl Controller {
     fn may_assent(&self, sizes: Sizes, seat: Seat, view: View, pair: Pair) -> Result<(), RuleCause>
         ensures { result ≡ Rules.may_assent sizes self.now seat view pair }
     {
-        if view.number() != self.view.number() {
+        if view != self.view {
             return Err(RuleCause::OtherView);
         }
         let Some(held) = self.round.proposal else {
@@ -297,7 +279,7 @@ impl Controller {
     fn may_confirm(&self, seat: Seat, view: View, pair: Pair) -> Result<(), RuleCause>
         ensures { result ≡ Rules.may_confirm self.now seat view pair }
     {
-        if view.number() != self.view.number() {
+        if view != self.view {
             return Err(RuleCause::OtherView);
         }
         let Some(held) = self.round.proposal else {
@@ -358,10 +340,10 @@ impl Controller {
     fn may_move(&self, seat: Seat, view: View, basis: &Option<Basis>) -> Result<(), RuleCause>
         ensures { result ≡ Rules.may_move self.now seat view basis.now }
     {
-        if view.number() < self.view.number() {
+        if view < self.view {
             return Err(RuleCause::OtherView);
         }
-        if view.number() == self.view.number() && self.round.proposal.is_some() {
+        if view == self.view && self.round.proposal.is_some() {
             return Err(RuleCause::OutOfTurn);
         }
         if names_from(entry(&self.records, seat.number()), view) {
@@ -396,7 +378,7 @@ impl Controller {
             seat.number(),
             Some(MoveRecord { view, basis }),
         );
-        if self.view.number() < view.number()
+        if self.view < view
             && self.record_count(view) >= sizes.faults() as usize + 1
         {
             return Ok(self.enter_view(view));
@@ -443,9 +425,7 @@ impl Controller {
     fn own_draft(&self, movers: SeatSet) -> Option<Draft>
         ensures { result ≡ Rules.own_draft self.now movers self.now.order }
     {
-        let Some(order) = self.order else {
-            return None;
-        };
+        let order = self.order?;
         let certificate = Certificate {
             order,
             enrolled: self.registered,
@@ -470,9 +450,6 @@ impl Controller {
         if self.view.number() != 0 && self.record_count(self.view) < sizes.quorum() as usize {
             return Err(RuleCause::MoversMissing);
         }
-        match self.draft(sizes) {
-            Some(draft) => Ok(draft),
-            None => Err(RuleCause::OutOfTurn),
-        }
+        self.draft(sizes).ok_or(RuleCause::OutOfTurn)
     }
 }

@@ -64,7 +64,7 @@ impl Lock {
         ensures lock { self.new ≡ Rules.lock_after self.old (Letters.letter_rule sizes change self.old (B.Board.meaning board.old) letter.entry) }
         ensures board { B.Board.meaning board.new ≡ Rules.board_after (B.Board.meaning board.old) self.old.place (Letters.letter_rule sizes change self.old (B.Board.meaning board.old) letter.entry) }
     {
-        if letter.change.number() != change.number() {
+        if letter.change != change {
             return Err(RuleCause::OtherChange);
         }
         self.take_body(sizes, board, letter.body)

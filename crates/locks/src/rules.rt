@@ -14,26 +14,11 @@ use terms::parties::Outcome;
 use terms::refusals::RuleCause;
 use terms::sizes::Sizes;
 
-impl Standing {
-    fn rank(self) -> u8
-        ensures { result ≡ Rules.rank self }
-    {
-        match self {
-            Standing::New => 0,
-            Standing::Applied => 1,
-            Standing::Enrolled => 2,
-            Standing::Ready => 3,
-            Standing::Changed => 4,
-            Standing::Kept => 5,
-        }
-    }
-}
-
 impl Lock {
     fn may_apply(&self) -> Result<(), RuleCause>
         ensures { result ≡ Rules.may_apply self.now }
     {
-        if self.standing.rank() != 0 {
+        if self.standing != Standing::New {
             return Err(RuleCause::OutOfTurn);
         }
         Ok(())
@@ -52,13 +37,13 @@ impl Lock {
     fn may_receipt(&self, seat: Seat, place: Place) -> Result<(), RuleCause>
         ensures { result ≡ Rules.may_receipt self.now seat place }
     {
-        if place.number() != self.place.number() {
+        if place != self.place {
             return Err(RuleCause::Differs);
         }
-        if self.standing.rank() == 0 {
+        if self.standing == Standing::New {
             return Err(RuleCause::OutOfTurn);
         }
-        if entry(&self.receipts, seat.number()).is_some() || self.standing.rank() > 1 {
+        if entry(&self.receipts, seat.number()).is_some() || self.standing > Standing::Applied {
             return Err(RuleCause::Repeated);
         }
         Ok(())
@@ -85,7 +70,7 @@ impl Lock {
     fn may_decline(&self) -> Result<(), RuleCause>
         ensures { result ≡ Rules.may_decline self.now }
     {
-        if self.standing.rank() != 2 {
+        if self.standing != Standing::Enrolled {
             return Err(RuleCause::OutOfTurn);
         }
         Ok(())
@@ -104,10 +89,10 @@ impl Lock {
     fn may_summon(&self) -> Result<(), RuleCause>
         ensures { result ≡ Rules.may_summon self.now }
     {
-        if self.standing.rank() < 2 {
+        if self.standing < Standing::Enrolled {
             return Err(RuleCause::OutOfTurn);
         }
-        if self.standing.rank() > 2 {
+        if self.standing > Standing::Enrolled {
             return Err(RuleCause::Repeated);
         }
         Ok(())
@@ -149,13 +134,13 @@ impl Lock {
     ) -> Result<(), RuleCause>
         ensures { result ≡ Rules.may_result_with self.now staged seat outcome }
     {
-        if self.standing.rank() < 2 {
+        if self.standing < Standing::Enrolled {
             return Err(RuleCause::OutOfTurn);
         }
-        if self.standing.rank() > 3 {
+        if self.standing > Standing::Ready {
             return Err(RuleCause::Repeated);
         }
-        if is_number(outcome) && self.standing.rank() == 2 {
+        if outcome != Outcome::Keep && self.standing == Standing::Enrolled {
             return Err(RuleCause::OutOfTurn);
         }
         if strange(staged, outcome) {
@@ -206,22 +191,12 @@ impl Lock {
     }
 }
 
-fn is_number(outcome: Outcome) -> bool
-    ensures { result ≡ Rules.is_number outcome }
-{
-    match outcome {
-        Outcome::Keep => false,
-        Outcome::Number(_) => true,
-    }
-}
-
 // Neither keep nor the staged number.
 fn strange(staged: Option<KeyNumber>, outcome: Outcome) -> bool
     ensures { result ≡ Rules.strange staged outcome }
 {
-    match (staged, outcome) {
-        (_, Outcome::Keep) => false,
-        (None, Outcome::Number(_)) => true,
-        (Some(m), Outcome::Number(n)) => m.value() != n.value(),
+    match outcome {
+        Outcome::Keep => false,
+        Outcome::Number(number) => staged != Some(number),
     }
 }

@@ -3,23 +3,23 @@ ghost use Rattle.std.specs.Prelude.{◌≡◌};
 ghost use Rattle.terms.specs.Numbers.{seat_of, place_of, view_of, change_of, key_of};
 
 // A controller's number in its vault, 0 to 15.
-#[derive(Clone, Copy, PartialEq, Eq)]
+#[derive(Clone, Copy, PartialEq, Eq, PartialOrd, Ord)]
 pub struct Seat(pub(crate) u8);
 
 // A lock's number in its vault, which is also its door's number on the board, 0 to 7.
-#[derive(Clone, Copy, PartialEq, Eq)]
+#[derive(Clone, Copy, PartialEq, Eq, PartialOrd, Ord)]
 pub struct Place(pub(crate) u8);
 
 // An attempt of one leader to bring the change to an end, 0 to 255.
-#[derive(Clone, Copy, PartialEq, Eq)]
+#[derive(Clone, Copy, PartialEq, Eq, PartialOrd, Ord)]
 pub struct View(u8);
 
 // Which change of a vault's keys this is, 1 to 255.
-#[derive(Clone, Copy, PartialEq, Eq)]
+#[derive(Clone, Copy, PartialEq, Eq, PartialOrd, Ord)]
 pub struct Change(u32);
 
 // What a door opens to, 0 to 999,999.
-#[derive(Clone, Copy, PartialEq, Eq)]
+#[derive(Clone, Copy, PartialEq, Eq, PartialOrd, Ord)]
 pub struct KeyNumber(u32);
 
 impl Seat {
