@@ -194,6 +194,13 @@ concludes sizes u x = confirmed_here u && (nat_le (quorum_of sizes) (count_agree
 abbrev pub concluded : Sizes → Controller → Pair → Controller
 concluded sizes u x = cond (concludes sizes u x) (with_result u (Some x.outcome)) u
 
+-- ---- assent and confirm: 11 not the own view; 9 no proposal is held; 12 outcome or digest differ
+
+abbrev pub may_second : Controller → View → Pair → Result (Unit {0}) RuleCause
+may_second u v x =
+    refuse_if (not (v.0 == u.view.0)) R.OtherView
+    (given u.round.proposal R.OutOfTurn (λ p. refuse_if (not (same_pair x (pair_of p))) R.Differs (Ok tt)))
+
 -- ---- assent: 11; 9 no proposal is held; 12 outcome or digest differ; 10 the seat is recorded, or 2f are; recorded; the 2f-th makes
 -- the basis, and the own confirm is recorded and sent
 

@@ -39,6 +39,18 @@ fn false_basis(basis: &Option<Basis>) -> bool
     basis.is_some_and(|basis| !basis.certificate.result().agrees(&basis.outcome))
 }
 
+impl Proposal {
+    // What a ballot on it stands for.
+    fn pair(&self) -> Pair
+        ensures { result ≡ Rules.pair_of self.now }
+    {
+        Pair {
+            outcome: self.outcome,
+            digest: self.digest,
+        }
+    }
+}
+
 impl Round {
     fn record_assent(&mut self, seat: Seat, pair: Pair, seal: Seal)
         ensures { self.new ≡ Rules.assented self.old seat pair seal }
@@ -144,12 +156,8 @@ impl Controller {
         ensures { self.new ≡ Rules.held self.old proposal own }
     {
         self.hold(proposal);
-        let pair = Pair {
-            outcome: proposal.outcome,
-            digest: proposal.digest,
-        };
         let seat = self.seat;
-        self.round.record_assent(seat, pair, own);
+        self.round.record_assent(seat, proposal.pair(), own);
     }
 
     fn confirmed_here(&self) -> bool
@@ -178,22 +186,24 @@ impl Controller {
         true
     }
 
-    fn may_assent(&self, sizes: Sizes, seat: Seat, view: View, pair: Pair) -> Result<(), RuleCause>
-        ensures { result ≡ Rules.may_assent sizes self.now seat view pair }
+    // An assent or a confirm is of this view and on the held proposal.
+    fn may_second(&self, view: View, pair: Pair) -> Result<(), RuleCause>
+        ensures { result ≡ Rules.may_second self.now view pair }
     {
         if view != self.view {
             return Err(RuleCause::OtherView);
         }
-        let Some(held) = self.round.proposal else {
-            return Err(RuleCause::OutOfTurn);
-        };
-        let holds = Pair {
-            outcome: held.outcome,
-            digest: held.digest,
-        };
-        if !pair.agrees(&holds) {
+        let held = self.round.proposal.ok_or(RuleCause::OutOfTurn)?;
+        if !pair.agrees(&held.pair()) {
             return Err(RuleCause::Differs);
         }
+        Ok(())
+    }
+
+    fn may_assent(&self, sizes: Sizes, seat: Seat, view: View, pair: Pair) -> Result<(), RuleCause>
+        ensures { result ≡ Rules.may_assent sizes self.now seat view pair }
+    {
+        self.may_second(view, pair)?;
         if entry(&self.round.assents, seat.number()).is_some() {
             return Err(RuleCause::Repeated);
         }
@@ -279,19 +289,7 @@ impl Controller {
     fn may_confirm(&self, seat: Seat, view: View, pair: Pair) -> Result<(), RuleCause>
         ensures { result ≡ Rules.may_confirm self.now seat view pair }
     {
-        if view != self.view {
-            return Err(RuleCause::OtherView);
-        }
-        let Some(held) = self.round.proposal else {
-            return Err(RuleCause::OutOfTurn);
-        };
-        let holds = Pair {
-            outcome: held.outcome,
-            digest: held.digest,
-        };
-        if !pair.agrees(&holds) {
-            return Err(RuleCause::Differs);
-        }
+        self.may_second(view, pair)?;
         if entry(&self.round.confirms, seat.number()).is_some() {
             return Err(RuleCause::Repeated);
         }

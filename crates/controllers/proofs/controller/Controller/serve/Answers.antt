@@ -20,7 +20,7 @@ returns-then-ne g c =
     let l = c.args.letter in
     let t = c.args.change in
     let from = party_number (sender_of l.body) in
-    let other : not (eqb l.change.0 t.0) ≡ true = (let h = c.ne in ?) in
+    let other : not (eqb l.change.0 t.0) ≡ true = sym c.if-ne.ensures in
     goes_refused _ t u c.args.out.now c.args.scratch.now _ (ruled R.OtherChange from) _ _
     (has_room_lem c.args.out.now c.args.scratch.now _ c.in_ok-require_room.ensures)
     (λ z. ap (λ b. pointed from (cond b (refused R.OtherChange) (body_rule c.args.sizes t u l.body l.seal z))) other)
@@ -35,7 +35,7 @@ returns g c =
     let l = c.args.letter in
     let t = c.args.change in
     let from = party_number (sender_of l.body) in
-    let same : not (eqb l.change.0 t.0) ≡ false = (let h = c in ?) in
+    let same : not (eqb l.change.0 t.0) ≡ false = sym c.if-ne.ensures in
     goes_along (λ z. ap (λ n. pointed n (body_rule c.args.sizes t u l.body l.seal z)) c.sender_number-sender.ensures
     ∙ sym (ap (λ b. pointed from (cond b (refused R.OtherChange) (body_rule c.args.sizes t u l.body l.seal z))) same))
     c.serve_body.ensures
