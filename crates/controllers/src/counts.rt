@@ -68,36 +68,26 @@ fn better(best: Option<Basis>, next: Option<Basis>) -> Option<Basis>
 pub(crate) fn choose(records: &[Option<MoveRecord>], movers: SeatSet, view: View) -> Option<Basis>
     ensures { result ≡ Choice.best records.now movers.0 view 16 }
 {
-    let mut best: Option<Basis> = None;
-    for seat in 0..16u8 {
-        best = better(
+    (0..16u8).fold(None, |best, seat| {
+        better(
             best,
             offer(stands(movers.0, seat), entry(records, seat), view),
-        );
-    }
-    best
+        )
+    })
 }
 
 // Each mover has a record of the view.
 pub(crate) fn all_recorded(records: &[Option<MoveRecord>], movers: SeatSet, view: View) -> bool
     ensures { result ≡ Choice.all_recorded records.now movers.0 view 16 }
 {
-    let mut all = true;
-    for seat in 0..16u8 {
-        all = all && (!stands(movers.0, seat) || names(entry(records, seat), view));
-    }
-    all
+    (0..16u8).all(|seat| !stands(movers.0, seat) || names(entry(records, seat), view))
 }
 
 // Each registered place is enrolled in a certificate.
 pub(crate) fn covers(registered: &[Option<Seal>], enrolled: &[Option<Seal>]) -> bool
     ensures { result ≡ Choice.covers registered.now enrolled.now 8 }
 {
-    let mut all = true;
-    for place in 0..8u8 {
-        all = all && (entry(registered, place).is_none() || entry(enrolled, place).is_some());
-    }
-    all
+    (0..8u8).all(|place| entry(registered, place).is_none() || entry(enrolled, place).is_some())
 }
 
 fn bit_of(seat: u8) -> u16

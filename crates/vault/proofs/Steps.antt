@@ -1,5 +1,6 @@
 -- From what a unit's call says to what the call on the whole vault says.
 use Rattle.std.proofs.Common.{◌≡◌, ℕ, zero, suc, ◌<◌, Bool, true, false, cond, ◌&&◌, ltb, List, [], ◌∷◌, length, get_or, set, is_ok, Some, None, Ok, Err, Option, Result, sym, refl, ap, ◌∙◌, subst, arith}
+use Rattle.std.specs.Result.{result_ok}
 use Rattle.std.proofs.lemmas.Bool.Decides.{nat_tests}
 use Rattle.terms.specs.declared.numbers.Change.{Change}
 use Rattle.terms.specs.declared.numbers.Place.{Place}
@@ -184,6 +185,11 @@ pub office_turn :
     (v : Vault) (s : State) (call : Call) (r : Reply Refusal Office) (w : Unit-calls.Went Office) →
     Goes v.relation v.change s.office call.out call.scratch (λ z. r) w → Turned v s call (of_office r) (office_went s w)
 office_turn v s call r w g = record { seals = g.seals; words = g.words; goes = ap (office_went s) g.goes; sealed = g.sealed }
+
+-- the index that is reached
+pub ok_at : (r : Result ℕ Refusal) (at : ℕ) → Some at ≡ result_ok r → Ok at ≡ r
+ok_at (Ok n) at e = cc
+ok_at (Err x) at e = let z : ◌≡◌ {A = ℕ} 0 1 = cc in absurd (omega arith)
 
 -- a question to the unit that is reached
 pub asked_at :

@@ -37,12 +37,8 @@ impl Vault {
             return Err(no_such_unit());
         }
         require_room(out.len(), scratch.len())?;
-        match open(self.sizes, scheme, bytes, scratch) {
-            Ok(opened) => {
-                controllers[at].receive(self.sizes, self.change, scheme, opened, scratch, out)
-            }
-            Err(refusal) => Err(refusal),
-        }
+        let opened = open(self.sizes, scheme, bytes, scratch)?;
+        controllers[at].receive(self.sizes, self.change, scheme, opened, scratch, out)
     }
 
     fn hand_to_lock<S: Scheme, B: Board>(
@@ -64,12 +60,8 @@ impl Vault {
             return Err(no_such_unit());
         }
         require_room(out.len(), scratch.len())?;
-        match open(self.sizes, scheme, bytes, scratch) {
-            Ok(opened) => {
-                locks[at].receive(self.sizes, self.change, scheme, board, opened, scratch, out)
-            }
-            Err(refusal) => Err(refusal),
-        }
+        let opened = open(self.sizes, scheme, bytes, scratch)?;
+        locks[at].receive(self.sizes, self.change, scheme, board, opened, scratch, out)
     }
 
     pub(crate) fn hand_in_one<S: Scheme, B: Board>(
