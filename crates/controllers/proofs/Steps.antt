@@ -1,5 +1,5 @@
 -- One seat or place more.
-use Rattle.std.proofs.Common.{◌≡◌, ℕ, ◌+◌, Bool, true, not, ◌&&◌, ◌||◌, List, get_or, is_some, Some, None, Option, refl, ap, add-one}
+use Rattle.std.proofs.Common.{◌≡◌, ℕ, ◌+◌, true, not, ◌&&◌, ◌||◌, List, get_or, is_some, None, Option, refl, ap, add-one}
 use Rattle.terms.specs.declared.numbers.View.{View}
 use Rattle.letters.specs.declared.sorts.Seal.{Seal}
 use Rattle.controllers.specs.declared.controller.MoveRecord.{MoveRecord}

@@ -1,5 +1,5 @@
 -- Records of moves: which view they name, and the basis that must be chosen.
-use Rattle.std.specs.Prelude.{ℕ, zero, suc, ◌+◌, ◌*◌, ◌/◌, ◌%◌, ◌^◌, Bool, true, false, cond, not, ◌&&◌, ◌||◌, List, is_some, Some, None, Option, ◌==◌, nat_lt, slice_index_or}
+use Rattle.std.specs.Prelude.{ℕ, zero, suc, ◌+◌, ◌/◌, ◌%◌, ◌^◌, Bool, true, false, cond, not, ◌&&◌, ◌||◌, List, is_some, Some, None, Option, ◌==◌, nat_lt, slice_index_or}
 use Rattle.terms.specs.declared.numbers.View.{View}
 use Rattle.letters.specs.declared.sorts.Seal.{Seal}
 use Rattle.letters.specs.declared.certificates.Basis.{Basis}

@@ -1,5 +1,5 @@
 -- Which rule of a controller a letter falls under.
-use Rattle.std.specs.Prelude.{ℕ, Bool, cond, not, replicate, None, ◌==◌}
+use Rattle.std.specs.Prelude.{cond, not, replicate, None, ◌==◌}
 use Rattle.terms.specs.declared.numbers.Change.{Change}
 use Rattle.terms.specs.declared.numbers.Seat.{Seat}
 use Rattle.terms.specs.declared.refusals.RuleCause.TheVariants as R

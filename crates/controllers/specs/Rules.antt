@@ -1,5 +1,5 @@
 -- The rules of a controller: guards in order, then what the controller becomes and what it sends.
-use Rattle.std.specs.Prelude.{ℕ, ◌+◌, ◌*◌, Bool, true, false, cond, not, ◌&&◌, ◌||◌, List, [], ◌∷◌, replicate, is_some, Some, None, Ok, Err, Option, Result, ◌==◌, nat_eq, nat_le, nat_lt, slice_index_or, slice_set}
+use Rattle.std.specs.Prelude.{ℕ, ◌+◌, ◌*◌, Bool, true, false, cond, not, ◌&&◌, ◌||◌, List, replicate, is_some, Some, None, Ok, Err, Option, Result, ◌==◌, nat_eq, nat_le, nat_lt, slice_index_or, slice_set}
 use Rattle.terms.specs.declared.numbers.Change.{Change}
 use Rattle.terms.specs.declared.numbers.KeyNumber.{KeyNumber}
 use Rattle.terms.specs.declared.numbers.Place.{Place}
@@ -35,7 +35,7 @@ use Rattle.controllers.specs.declared.controller.Draft.{Draft}
 use Rattle.controllers.specs.declared.controller.MoveRecord.{MoveRecord}
 use Rattle.controllers.specs.declared.controller.Proposal.{Proposal}
 use Rattle.controllers.specs.declared.controller.Round.{Round}
-use Rattle.controllers.specs.Choice.{same_view, names, best, all_recorded, covers, picked}
+use Rattle.controllers.specs.Choice.{same_view, best, all_recorded, covers, picked}
 
 -- refused, or served: the controller, and what it sends
 abbrev pub Reply : Type 0

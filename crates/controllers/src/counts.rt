@@ -23,6 +23,7 @@ impl Ballot for MoveRecord {
     }
 }
 
+// By index, as an entry of a table is: for `SeatSet::holds` an index would first have to become a seat.
 fn stands(map: u16, seat: u8) -> bool
     requires { seat < 16 }
     ensures { result ≡ Choice.stands_in map seat }
@@ -119,6 +120,7 @@ fn add_seat(picked: Picked, seat: u8, quorum: u8, named: bool) -> Picked
 pub(crate) fn pick(records: &[Option<MoveRecord>], view: View, quorum: u8) -> SeatSet
     ensures { result.0 ≡ (Choice.picked records.now view quorum 16).map }
 {
+    // A loop: each step asks that the map is below this seat's bit, which a fold doesn't tell its closure.
     let mut picked = Picked { map: 0, count: 0 };
     for seat in 0..16u8 {
         picked = add_seat(picked, seat, quorum, names(entry(records, seat), view));

@@ -36,7 +36,7 @@ impl Controller {
     pub(crate) fn store(&mut self, next: Controller, posted: &Result<Posted, Refusal>)
         ensures { self.new ≡ Calls.keeping self.old next posted.now }
     {
-        if let Ok(_) = posted {
+        if posted.is_ok() {
             *self = next;
         }
     }
@@ -101,6 +101,7 @@ impl Controller {
         answer(posted)
     }
 
+    // `keep_proposal` is alike: a shared function would take a closure that changes the controller.
     fn keep_assent(&mut self, proposal: Proposal, posted: &Result<Posted, Refusal>)
         ensures { self.new ≡ Calls.keeping self.old (Rules.held self.old proposal (seals_in posted.now).first) posted.now }
     {

@@ -35,6 +35,7 @@ fn summons(
 ) -> AtMostTwo<Body<Certificate, Basis>>
     ensures { result ≡ Rules.summons sender number office_seal }
 {
+    // Two arms: a conversion of an option into at most two would serve here alone.
     match number {
         None => AtMostTwo::Nothing,
         Some(number) => AtMostTwo::One(Body::Summons {

@@ -250,6 +250,7 @@ impl Controller {
     }
 
     // With 2f assents recorded the controller confirms.
+    #[tactic(auto, unfolding(crate::specs::Rules::confirming))]
     fn confirming(&mut self, sizes: Sizes, pair: Pair) -> AtMostTwo<Body<Certificate, Basis>>
         ensures answer { Ok result ≡ Replies.sends (Rules.confirming sizes self.old pair self.old.round.proposal) }
         ensures unit { self.new ≡ Replies.after self.old (Rules.confirming sizes self.old pair self.old.round.proposal) }
@@ -376,9 +377,7 @@ impl Controller {
             seat.number(),
             Some(MoveRecord { view, basis }),
         );
-        if self.view < view
-            && self.record_count(view) >= sizes.faults() as usize + 1
-        {
+        if self.view < view && self.record_count(view) >= sizes.faults() as usize + 1 {
             return Ok(self.enter_view(view));
         }
         Ok(AtMostTwo::Nothing)
@@ -389,11 +388,9 @@ impl Controller {
         ensures answer { result ≡ Replies.sends (Rules.ring_rule self.old) }
         ensures unit { self.new ≡ Replies.after self.old (Rules.ring_rule self.old) }
     {
-        if self.view.number() >= 255 {
-            return Err(RuleCause::LastView);
-        }
-        let next = View::new(self.view.number() + 1);
-        Ok(self.enter_view(next))
+        let view = self.view.number();
+        let next = view.checked_add(1).ok_or(RuleCause::LastView)?;
+        Ok(self.enter_view(View::new(next)))
     }
 
     fn movers(&self, sizes: Sizes) -> SeatSet

@@ -13,7 +13,7 @@ use terms::numbers::Change;
 use terms::refusals::Refusal;
 
 impl Lock {
-    // The lock enrols.
+    // The lock enrols. It shares its two ends with declining; the rule between them would be a closure.
     pub fn enrol<S: Scheme>(
         &mut self,
         change: Change,

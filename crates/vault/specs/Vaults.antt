@@ -1,5 +1,5 @@
 -- A vault over lent tables: what its calls find and leave, and its set-up.
-use Rattle.std.specs.Prelude.{◌≡◌, ℕ, Bool, true, cond, ◌&&◌, List, is_ok, Ok, Err, Option, Result, nat_lt}
+use Rattle.std.specs.Prelude.{◌≡◌, ℕ, true, cond, ◌&&◌, List, is_ok, Ok, Err, Option, Result, nat_lt}
 use Rattle.terms.specs.declared.parties.Party.{Party}
 use Rattle.terms.specs.declared.refusals.Refusal.{Refusal}
 use Rattle.seals.specs.Opening.{Relation}

@@ -18,6 +18,7 @@ use terms::parties::Party;
 use terms::refusals::Refusal;
 
 impl Vault {
+    // A lock's tests are alike: a shared function would have to tell what opening leaves of the scratch buffer.
     fn hand_to_controller<S: Scheme, B: Board>(
         &self,
         controllers: &mut [Controller],
@@ -100,6 +101,7 @@ impl Vault {
                 out,
                 unit,
             ),
+            // Two arms: as one they leave it open in the proof whether there is such a party.
             Some(Party::Office) => Err(no_such_unit()),
             None => Err(no_such_unit()),
         }

@@ -17,6 +17,7 @@ use terms::sizes::Sizes;
 trait Numbered: Sized {
     // How many numbers there are.
     ghost numbers: { ℕ };
+
     ghost new_at: { ℕ → Self };
 
     // A new one with this number.
@@ -26,6 +27,7 @@ trait Numbered: Sized {
 
 impl Numbered for Controller {
     ghost numbers = { 16 };
+
     ghost new_at = { SetUps.new_controller };
 
     fn new_at(n: u8) -> Option<Controller> {
@@ -35,6 +37,7 @@ impl Numbered for Controller {
 
 impl Numbered for Lock {
     ghost numbers = { 8 };
+
     ghost new_at = { SetUps.new_lock };
 
     fn new_at(n: u8) -> Option<Lock> {
@@ -58,10 +61,7 @@ fn is_staged<B: Board>(board: &B, n: u32) -> bool
     requires { n < 8 }
     ensures { result ≡ has_staged (B.Board.meaning board.now) (place n) }
 {
-    match Place::new(n) {
-        Some(place) => board.staged(place).is_some(),
-        None => false,
-    }
+    Place::new(n).is_some_and(|place| board.staged(place).is_some())
 }
 
 // Nothing is staged at any place.
@@ -81,13 +81,10 @@ fn is_furnished<B: Board>(
 ) -> bool
     ensures { result ≡ SetUps.furnished sizes.faults sizes.locks (B.Board.meaning board.now) controllers.now locks.now }
 {
-    if controllers.len() < sizes.seats() as usize || locks.len() < sizes.locks() as usize {
-        return false;
-    }
-    if board.places() < sizes.locks() as u32 {
-        return false;
-    }
-    is_idle(board)
+    controllers.len() >= sizes.seats() as usize
+        && locks.len() >= sizes.locks() as usize
+        && board.places() >= sizes.locks() as u32
+        && is_idle(board)
 }
 
 fn set_up_sized<B: Board>(

@@ -1,4 +1,4 @@
-use Rattle.std.proofs.Common.{◌≡◌, ℕ, ◌+◌, ◌*◌, ◌^◌, ◌<◌, ◌≤◌, arith, rules}
+use Rattle.std.proofs.Common.{◌≡◌, ℕ, ◌+◌, ◌*◌, ◌^◌, arith, rules}
 use Rattle.std.proofs.lemmas.Nat.{pow-add}
 use Rattle.controllers.proofs.counts.add_seat.Goals as goal
 

@@ -1,4 +1,4 @@
-use Rattle.std.proofs.Common.{◌≡◌, ◌||◌, not, get_or, is_some, None, refl, ◌∙◌, rules, tests}
+use Rattle.std.proofs.Common.{◌||◌, not, get_or, None, refl, ◌∙◌, rules, tests}
 use Rattle.std.proofs.lemmas.Iterator.{YieldsList-from_range}
 use Rattle.std.proofs.lemmas.Iterator.Search.{all_from_yields_List}
 use Rattle.controllers.specs.Choice.{stands_in, names, all_recorded}

@@ -1,5 +1,5 @@
 use Rattle.std.proofs.Common.{rules}
-use Rattle.vault.proofs.Renews.{renewed_none, renewed_more, length_renewed}
+use Rattle.vault.proofs.Renews.{renewed_none, renewed_more}
 use Rattle.vault.proofs.setting_up.renew.Goals as goal
 
 pub loop-n-init : goal.loop-n-init

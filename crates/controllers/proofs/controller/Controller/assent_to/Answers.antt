@@ -1,4 +1,4 @@
-use Rattle.std.proofs.Common.{◌≡◌, sym, refl, ap, ◌∙◌, rules}
+use Rattle.std.proofs.Common.{refl}
 use Rattle.posting.proofs.Goes.{goes-copied}
 use Rattle.controllers.specs.Rules.{assenting}
 use Rattle.controllers.proofs.controller.Controller.assent_to.Goals as goal

@@ -1,4 +1,4 @@
-use Rattle.std.proofs.Common.{◌≡◌, sym, refl, ap, ◌∙◌, rules}
+use Rattle.std.proofs.Common.{sym, ap, rules}
 use Rattle.posting.specs.Calls.{pointed, ruled}
 use Rattle.posting.proofs.Goes.{goes_nowhere, goes_refused, goes_along, has_room_lem, has_no_room}
 use Rattle.controllers.specs.Rules.{proposing}

@@ -1,4 +1,4 @@
-use Rattle.std.proofs.Common.{◌≡◌, sym, refl, ap, ◌∙◌, rules}
+use Rattle.std.proofs.Common.{refl}
 use Rattle.posting.proofs.Goes.{goes-copied}
 use Rattle.controllers.specs.Rules.{proposed}
 use Rattle.controllers.proofs.controller.Controller.propose_draft.Goals as goal

@@ -1,4 +1,4 @@
-use Rattle.std.proofs.Common.{◌≡◌, sym, refl, ap, ◌∙◌, rules}
+use Rattle.std.proofs.Common.{ap, ◌∙◌, rules}
 use Rattle.posting.specs.Calls.{keeping}
 use Rattle.posting.proofs.Goes.{goes_nowhere, goes-copied, has_room_lem, has_no_room}
 use Rattle.controllers.specs.Rules.{ring_rule}

@@ -1,5 +1,4 @@
-use Rattle.std.proofs.Common.{◌≡◌, Bool, true, false, cond, not, eqb, sym, refl, ap, ◌∙◌, arith, rules}
-use Rattle.std.proofs.lemmas.Bool.Decides.{nat_tests}
+use Rattle.std.proofs.Common.{◌≡◌, true, false, cond, not, eqb, sym, ap, ◌∙◌, rules}
 use Rattle.terms.specs.declared.refusals.RuleCause.TheVariants as R
 use Rattle.terms.specs.Parties.{party_number}
 use Rattle.letters.specs.Senders.{sender_of}

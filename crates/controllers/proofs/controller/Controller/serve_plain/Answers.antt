@@ -1,4 +1,4 @@
-use Rattle.std.proofs.Common.{◌≡◌, sym, refl, ap, ◌∙◌, rules}
+use Rattle.std.proofs.Common.{ap, ◌∙◌}
 use Rattle.posting.specs.Calls.{keeping}
 use Rattle.posting.proofs.Goes.{goes-copied}
 use Rattle.controllers.specs.Letters.{plain_rule}

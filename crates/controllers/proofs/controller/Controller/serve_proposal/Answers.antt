@@ -1,4 +1,4 @@
-use Rattle.std.proofs.Common.{◌≡◌, sym, refl, ap, ◌∙◌, rules}
+use Rattle.std.proofs.Common.{sym, ap}
 use Rattle.posting.specs.Calls.{pointed, ruled}
 use Rattle.posting.specs.Replies.{passing}
 use Rattle.posting.proofs.Goes.{goes_refused, goes_along}

@@ -1,4 +1,4 @@
-use Rattle.std.proofs.Common.{◌≡◌, length, Some, None, sym, ap, ◌∙◌}
+use Rattle.std.proofs.Common.{Some, None, ap, ◌∙◌}
 use Rattle.terms.specs.Numbers.{seat}
 use Rattle.terms.specs.Sizes.{seat_count}
 use Rattle.controllers.specs.declared.controller.Controller.{Controller}
