@@ -1,5 +1,5 @@
 -- The rules of a controller: guards in order, then what the controller becomes and what it sends.
-use Rattle.std.specs.Prelude.{ℕ, ◌+◌, ◌*◌, Bool, true, false, cond, not, ◌&&◌, ◌||◌, List, replicate, is_some, Some, None, Ok, Err, Option, Result, ◌==◌, nat_eq, nat_le, nat_lt, slice_index_or, slice_set}
+use Rattle.std.specs.Prelude.{◌≡◌, ℕ, ◌+◌, ◌*◌, Bool, true, false, cond, not, ◌&&◌, ◌||◌, List, replicate, is_some, Some, None, Ok, Err, Option, Result, ◌==◌, nat_eq, nat_le, nat_lt, slice_index_or, slice_set}
 use Rattle.terms.specs.declared.numbers.Change.{Change}
 use Rattle.terms.specs.declared.numbers.KeyNumber.{KeyNumber}
 use Rattle.terms.specs.declared.numbers.Place.{Place}
@@ -40,6 +40,11 @@ use Rattle.controllers.specs.Choice.{same_view, best, all_recorded, covers, pick
 -- refused, or served: the controller, and what it sends
 abbrev pub Reply : Type 0
 Reply = Replies.Reply RuleCause Controller
+
+-- a rule was followed: what it sends or its refusal is answered, and the controller is what it makes of it
+pub record Follows (u : Controller) (r : Reply) (said : Result Bodies RuleCause) (v : Controller) : Type 0 where
+  pub answer : said ≡ Replies.sends r
+  pub unit : v ≡ Replies.after u r
 
 -- ---- the controller with a field replaced
 

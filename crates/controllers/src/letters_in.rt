@@ -48,8 +48,7 @@ impl Controller {
         body: Body<Certificate, Basis>,
         seal: Seal,
     ) -> Result<AtMostTwo<Body<Certificate, Basis>>, RuleCause>
-        ensures answer { result ≡ Replies.sends (Letters.plain_rule sizes self.old body seal) }
-        ensures unit { self.new ≡ Replies.after self.old (Letters.plain_rule sizes self.old body seal) }
+        ensures { Rules.Follows self.old (Letters.plain_rule sizes self.old body seal) result self.new }
     {
         match body {
             Body::Enrol { sender } => self.take_enrol(sender, seal),

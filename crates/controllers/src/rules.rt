@@ -71,8 +71,7 @@ impl Controller {
         place: Place,
         seal: Seal,
     ) -> Result<AtMostTwo<Body<Certificate, Basis>>, RuleCause>
-        ensures answer { result ≡ Replies.sends (Rules.enrol_rule self.old place seal) }
-        ensures unit { self.new ≡ Replies.after self.old (Rules.enrol_rule self.old place seal) }
+        ensures { Rules.Follows self.old (Rules.enrol_rule self.old place seal) result self.new }
     {
         self.may_enrol(place)?;
         put(&mut self.registered, place.number(), Some(seal));
@@ -88,8 +87,7 @@ impl Controller {
         number: Option<KeyNumber>,
         seal: Seal,
     ) -> Result<AtMostTwo<Body<Certificate, Basis>>, RuleCause>
-        ensures answer { result ≡ Replies.sends (Rules.order_rule self.old number seal) }
-        ensures unit { self.new ≡ Replies.after self.old (Rules.order_rule self.old number seal) }
+        ensures { Rules.Follows self.old (Rules.order_rule self.old number seal) result self.new }
     {
         may_order(self.order, number)?;
         self.order = Some(Order { number, seal });
@@ -122,8 +120,7 @@ impl Controller {
         answer: Answer,
         seal: Seal,
     ) -> Result<AtMostTwo<Body<Certificate, Basis>>, RuleCause>
-        ensures answer { result ≡ Replies.sends (Rules.vote_rule self.old place number answer seal) }
-        ensures unit { self.new ≡ Replies.after self.old (Rules.vote_rule self.old place number answer seal) }
+        ensures { Rules.Follows self.old (Rules.vote_rule self.old place number answer seal) result self.new }
     {
         self.may_vote(place, number)?;
         put(&mut self.votes, place.number(), Some(Vote { answer, seal }));

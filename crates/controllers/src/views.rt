@@ -252,8 +252,7 @@ impl Controller {
     // With 2f assents recorded the controller confirms.
     #[tactic(auto, unfolding(crate::specs::Rules::confirming))]
     fn confirming(&mut self, sizes: Sizes, pair: Pair) -> AtMostTwo<Body<Certificate, Basis>>
-        ensures answer { Ok result ≡ Replies.sends (Rules.confirming sizes self.old pair self.old.round.proposal) }
-        ensures unit { self.new ≡ Replies.after self.old (Rules.confirming sizes self.old pair self.old.round.proposal) }
+        ensures { Rules.Follows self.old (Rules.confirming sizes self.old pair self.old.round.proposal) (Ok result) self.new }
     {
         let Some(held) = self.round.proposal else {
             return AtMostTwo::Nothing;
@@ -276,8 +275,7 @@ impl Controller {
         pair: Pair,
         seal: Seal,
     ) -> Result<AtMostTwo<Body<Certificate, Basis>>, RuleCause>
-        ensures answer { result ≡ Replies.sends (Rules.assent_rule sizes self.old seat view pair seal) }
-        ensures unit { self.new ≡ Replies.after self.old (Rules.assent_rule sizes self.old seat view pair seal) }
+        ensures { Rules.Follows self.old (Rules.assent_rule sizes self.old seat view pair seal) result self.new }
     {
         self.may_assent(sizes, seat, view, pair)?;
         self.round.record_assent(seat, pair, seal);
@@ -305,8 +303,7 @@ impl Controller {
         view: View,
         pair: Pair,
     ) -> Result<AtMostTwo<Body<Certificate, Basis>>, RuleCause>
-        ensures answer { result ≡ Replies.sends (Rules.confirm_rule sizes self.old seat view pair) }
-        ensures unit { self.new ≡ Replies.after self.old (Rules.confirm_rule sizes self.old seat view pair) }
+        ensures { Rules.Follows self.old (Rules.confirm_rule sizes self.old seat view pair) result self.new }
     {
         self.may_confirm(seat, view, pair)?;
         self.round.record_confirm(seat, pair);
@@ -368,8 +365,7 @@ impl Controller {
         view: View,
         basis: Option<Basis>,
     ) -> Result<AtMostTwo<Body<Certificate, Basis>>, RuleCause>
-        ensures answer { result ≡ Replies.sends (Rules.move_rule sizes self.old seat view basis) }
-        ensures unit { self.new ≡ Replies.after self.old (Rules.move_rule sizes self.old seat view basis) }
+        ensures { Rules.Follows self.old (Rules.move_rule sizes self.old seat view basis) result self.new }
     {
         self.may_move(seat, view, &basis)?;
         put(
@@ -385,8 +381,7 @@ impl Controller {
 
     // The view has lasted too long: the controller enters the next one.
     pub(crate) fn take_ring(&mut self) -> Result<AtMostTwo<Body<Certificate, Basis>>, RuleCause>
-        ensures answer { result ≡ Replies.sends (Rules.ring_rule self.old) }
-        ensures unit { self.new ≡ Replies.after self.old (Rules.ring_rule self.old) }
+        ensures { Rules.Follows self.old (Rules.ring_rule self.old) result self.new }
     {
         let view = self.view.number();
         let next = view.checked_add(1).ok_or(RuleCause::LastView)?;

@@ -1,6 +1,6 @@
 -- The rules of a lock, at its place of a board: guards in order, then what the lock becomes, what the
 -- board shows and what is sent.
-use Rattle.std.specs.Prelude.{ℕ, ◌+◌, Bool, true, false, cond, not, ◌&&◌, ◌||◌, List, is_some, Some, None, Ok, Err, Option, Result, ◌==◌, nat_le, nat_lt, slice_index_or, slice_set}
+use Rattle.std.specs.Prelude.{◌≡◌, ℕ, ◌+◌, Bool, true, false, cond, not, ◌&&◌, ◌||◌, List, is_some, Some, None, Ok, Err, Option, Result, ◌==◌, nat_le, nat_lt, slice_index_or, slice_set}
 use Rattle.terms.specs.declared.numbers.KeyNumber.{KeyNumber}
 use Rattle.terms.specs.declared.numbers.Place.{Place}
 use Rattle.terms.specs.declared.numbers.Seat.{Seat}
@@ -55,6 +55,11 @@ sends r = Replies.sends (replied r)
 
 abbrev pub lock_after : Lock → Reply → Lock
 lock_after k r = Replies.after k (replied r)
+
+-- a rule was followed: what it sends or its refusal is answered, and the lock is what it makes of it
+pub record Follows (k : Lock) (r : Reply) (said : Result Bodies RuleCause) (j : Lock) : Type 0 where
+  pub answer : said ≡ sends r
+  pub lock : j ≡ lock_after k r
 
 abbrev pub deed_done : Meaning → Place → Deed → Meaning
 deed_done m p nothing = m

@@ -36,8 +36,7 @@ impl Lock {
         board: &mut B,
         body: Body<Part, Grounds>,
     ) -> Result<AtMostTwo<Body<Certificate, Basis>>, RuleCause>
-        ensures answer { result ≡ Rules.sends (Letters.body_rule sizes self.old (B.Board.meaning board.old) body.entry) }
-        ensures lock { self.new ≡ Rules.lock_after self.old (Letters.body_rule sizes self.old (B.Board.meaning board.old) body.entry) }
+        ensures follows { Rules.Follows self.old (Letters.body_rule sizes self.old (B.Board.meaning board.old) body.entry) result self.new }
         ensures board { B.Board.meaning board.new ≡ Rules.board_after (B.Board.meaning board.old) self.old.place (Letters.body_rule sizes self.old (B.Board.meaning board.old) body.entry) }
     {
         match body {
@@ -60,8 +59,7 @@ impl Lock {
         board: &mut B,
         letter: Letter<Part, Grounds>,
     ) -> Result<AtMostTwo<Body<Certificate, Basis>>, RuleCause>
-        ensures answer { result ≡ Rules.sends (Letters.letter_rule sizes change self.old (B.Board.meaning board.old) letter.entry) }
-        ensures lock { self.new ≡ Rules.lock_after self.old (Letters.letter_rule sizes change self.old (B.Board.meaning board.old) letter.entry) }
+        ensures follows { Rules.Follows self.old (Letters.letter_rule sizes change self.old (B.Board.meaning board.old) letter.entry) result self.new }
         ensures board { B.Board.meaning board.new ≡ Rules.board_after (B.Board.meaning board.old) self.old.place (Letters.letter_rule sizes change self.old (B.Board.meaning board.old) letter.entry) }
     {
         if letter.change != change {

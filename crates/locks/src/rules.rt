@@ -26,8 +26,7 @@ impl Lock {
 
     // The lock enrols: it applies.
     pub(crate) fn apply(&mut self) -> Result<AtMostTwo<Body<Certificate, Basis>>, RuleCause>
-        ensures answer { result ≡ Rules.sends (Rules.enrol_rule self.old) }
-        ensures lock { self.new ≡ Rules.lock_after self.old (Rules.enrol_rule self.old) }
+        ensures { Rules.Follows self.old (Rules.enrol_rule self.old) result self.new }
     {
         self.may_apply()?;
         self.standing = Standing::Applied;
@@ -56,8 +55,7 @@ impl Lock {
         seat: Seat,
         place: Place,
     ) -> Result<AtMostTwo<Body<Certificate, Basis>>, RuleCause>
-        ensures answer { result ≡ Rules.sends (Rules.receipt_rule sizes self.old seat place) }
-        ensures lock { self.new ≡ Rules.lock_after self.old (Rules.receipt_rule sizes self.old seat place) }
+        ensures { Rules.Follows self.old (Rules.receipt_rule sizes self.old seat place) result self.new }
     {
         self.may_receipt(seat, place)?;
         put(&mut self.receipts, seat.number(), Some(Receipted));
@@ -78,8 +76,7 @@ impl Lock {
 
     // The lock will not take part: it keeps its number.
     pub(crate) fn take_decline(&mut self) -> Result<AtMostTwo<Body<Certificate, Basis>>, RuleCause>
-        ensures answer { result ≡ Rules.sends (Rules.decline_rule self.old) }
-        ensures lock { self.new ≡ Rules.lock_after self.old (Rules.decline_rule self.old) }
+        ensures { Rules.Follows self.old (Rules.decline_rule self.old) result self.new }
     {
         self.may_decline()?;
         self.standing = Standing::Kept;
@@ -104,8 +101,7 @@ impl Lock {
         board: &mut B,
         number: KeyNumber,
     ) -> Result<AtMostTwo<Body<Certificate, Basis>>, RuleCause>
-        ensures answer { result ≡ Rules.sends (Rules.summons_rule self.old (B.Board.meaning board.old) number) }
-        ensures lock { self.new ≡ Rules.lock_after self.old (Rules.summons_rule self.old (B.Board.meaning board.old) number) }
+        ensures follows { Rules.Follows self.old (Rules.summons_rule self.old (B.Board.meaning board.old) number) result self.new }
         ensures board { B.Board.meaning board.new ≡ Rules.board_after (B.Board.meaning board.old) self.old.place (Rules.summons_rule self.old (B.Board.meaning board.old) number) }
     {
         self.may_summon()?;
@@ -177,8 +173,7 @@ impl Lock {
         seat: Seat,
         outcome: Outcome,
     ) -> Result<AtMostTwo<Body<Certificate, Basis>>, RuleCause>
-        ensures answer { result ≡ Rules.sends (Rules.result_rule sizes self.old (B.Board.meaning board.old) seat outcome) }
-        ensures lock { self.new ≡ Rules.lock_after self.old (Rules.result_rule sizes self.old (B.Board.meaning board.old) seat outcome) }
+        ensures follows { Rules.Follows self.old (Rules.result_rule sizes self.old (B.Board.meaning board.old) seat outcome) result self.new }
         ensures board { B.Board.meaning board.new ≡ Rules.board_after (B.Board.meaning board.old) self.old.place (Rules.result_rule sizes self.old (B.Board.meaning board.old) seat outcome) }
     {
         self.may_result(board.staged(self.place), seat, outcome)?;

@@ -50,6 +50,7 @@ fn renew<U: Numbered + Drop>(units: &mut [U], count: u8)
     requires { (count ≤ U.numbers) × (count ≤ length units.old) }
     ensures { units.new ≡ SetUps.renewed U.new_at count units.old }
 {
+    // By number: a unit is made from its own, which is also its row.
     for n in 0..count {
         if let Some(unit) = U::new_at(n) {
             units[n as usize] = unit;

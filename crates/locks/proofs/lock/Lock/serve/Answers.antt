@@ -39,7 +39,7 @@ returns g c =
     let call =
     goes-in-place c.args.change from k out scratch _ (replied rule) _ a _ _ _ _
     room (letter_fits_holds c.args.change k out scratch room c.args.sizes m c.args.letter)
-    reply.answer reply.lock
+    reply.follows.answer reply.follows.lock
     (c.finish.ensures.ends ∙ ap (λ n. ended c.args.change n c.take_letter-reply.result (seals_in a) out scratch) c.sender_number-sender.ensures)
     c.finish.ensures.words c.finish.ensures.sealed c.answer.ensures in
     record {
