@@ -32,12 +32,12 @@ use Rattle.posting.specs.declared.few.Seals.{Seals}
 use Rattle.posting.specs.Calls.{has_room, pointed, called}
 use Rattle.posting.specs.Posting.{are_words}
 use Rattle.posting.specs.Replies.{Reply, refused, served}
-use Rattle.controllerunits.specs.declared.controller.Controller.{Controller}
-use Rattle.controllerunits.specs.Letters as CL
-use Rattle.controllerunits.specs.Rules.{ring_rule, propose_rule}
-use Rattle.lockunits.specs.declared.lock.Lock.{Lock}
-use Rattle.lockunits.specs.Letters as LL
-use Rattle.lockunits.specs.Rules as L
+use Rattle.controllers.specs.declared.controller.Controller.{Controller}
+use Rattle.controllers.specs.Letters as CL
+use Rattle.controllers.specs.Rules.{ring_rule, propose_rule}
+use Rattle.locks.specs.declared.lock.Lock.{Lock}
+use Rattle.locks.specs.Letters as LL
+use Rattle.locks.specs.Rules as L
 use Rattle.office.specs.declared.Office.{Office}
 use Rattle.office.specs.Rules.{office, order_rule, order_reply, number_out_of_range}
 use Rattle.steps.specs.Ranges.{ControllerFits, LockFits, controller_step_fits, lock_step_fits}

@@ -15,9 +15,9 @@ use Rattle.letters.specs.declared.certificates.Certificate.{Certificate}
 use Rattle.letters.specs.declared.certificates.Vote.{Vote}
 use Rattle.letters.specs.Bytes.{map_of}
 use Rattle.letters.specs.Certificates.{is_ready, ready_vote, row_ready, all_ready, some_enrolled, result_under, result_of}
-use Rattle.controllerunits.specs.declared.controller.MoveRecord.{MoveRecord}
-use Rattle.controllerunits.specs.declared.controller.Picked.{Picked}
-use Rattle.controllerunits.specs.Choice.{stands_in, names, basis_of, offer, better, best, all_recorded, covers, add_seat, picked}
+use Rattle.controllers.specs.declared.controller.MoveRecord.{MoveRecord}
+use Rattle.controllers.specs.declared.controller.Picked.{Picked}
+use Rattle.controllers.specs.Choice.{stands_in, names, basis_of, offer, better, best, all_recorded, covers, add_seat, picked}
 use Rattle.agreement.specs.Seats.{Seats, count}
 use Rattle.agreement.proofs.Tools.{none_some, some_same, some_below, count_front, count_same, count_le}
 

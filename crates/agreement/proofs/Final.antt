@@ -25,9 +25,9 @@ use Rattle.letters.specs.Statements.{order_statement, vote_statement, proposal_s
 use Rattle.ballots.specs.Counts.{votes_for}
 use Rattle.ballots.specs.Kinds.{same_outcome}
 use Rattle.boards.specs.Boards.{in_force}
-use Rattle.lockunits.specs.declared.lock.Standing.{Standing}
-use Rattle.lockunits.specs.declared.lock.Standing.TheVariants as S
-use Rattle.lockunits.specs.Rules.{rank}
+use Rattle.locks.specs.declared.lock.Standing.{Standing}
+use Rattle.locks.specs.declared.lock.Standing.TheVariants as S
+use Rattle.locks.specs.Rules.{rank}
 use Rattle.roundtrip.proofs.Tells as T
 use Rattle.roundtrip.proofs.Tells.{number_below}
 use Rattle.steps.proofs.Within.{new_controllers_are_in_range, new_locks_are_in_range}

@@ -18,11 +18,11 @@ use Rattle.letters.specs.Statements.{outcome_number}
 use Rattle.boards.specs.Boards.{Meaning, in_force}
 use Rattle.letters.specs.Senders.{sender_of}
 use Rattle.seals.specs.Opening.{sender_borne}
-use Rattle.controllerunits.specs.declared.controller.Controller.{Controller}
-use Rattle.controllerunits.specs.Letters as CL
-use Rattle.controllerunits.specs.Rules as C
-use Rattle.lockunits.specs.declared.lock.Lock.{Lock}
-use Rattle.lockunits.specs.Letters as LL
+use Rattle.controllers.specs.declared.controller.Controller.{Controller}
+use Rattle.controllers.specs.Letters as CL
+use Rattle.controllers.specs.Rules as C
+use Rattle.locks.specs.declared.lock.Lock.{Lock}
+use Rattle.locks.specs.Letters as LL
 use Rattle.agreement.specs.Seats.{Seats}
 use Rattle.agreement.specs.Calls.{Vault}
 use Rattle.agreement.specs.Runs.{Among, here as first, there as later, is_receipt}

@@ -18,11 +18,11 @@ use Rattle.ballots.specs.Kinds.{always_agree, same_outcome}
 use Rattle.boards.specs.Boards.{Meaning, in_force, staged_at, stages}
 use Rattle.posting.specs.declared.few.AtMostTwo.TheVariants.{Nothing, One}
 use Rattle.posting.specs.Replies.{Bodies, refuse_if}
-use Rattle.lockunits.specs.declared.lock.Lock.{Lock}
-use Rattle.lockunits.specs.declared.lock.Standing.TheVariants as S
-use Rattle.lockunits.specs.Fresh.{fresh_lock}
-use Rattle.lockunits.specs.Rules as L
-use Rattle.lockunits.specs.Rules.{rank, Deed, nothing, stages_there, takes_over_there, drops_there, refused, served, deed_done, passing}
+use Rattle.locks.specs.declared.lock.Lock.{Lock}
+use Rattle.locks.specs.declared.lock.Standing.TheVariants as S
+use Rattle.locks.specs.Fresh.{fresh_lock}
+use Rattle.locks.specs.Rules as L
+use Rattle.locks.specs.Rules.{rank, Deed, nothing, stages_there, takes_over_there, drops_there, refused, served, deed_done, passing}
 use Rattle.agreement.specs.Seats.{Seats, count}
 use Rattle.agreement.specs.Calls.{Vault}
 use Rattle.agreement.proofs.Meet.{seats, Honest}

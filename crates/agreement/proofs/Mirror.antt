@@ -17,10 +17,10 @@ use Rattle.letters.specs.declared.certificates.Order.{Order}
 use Rattle.letters.specs.declared.certificates.Vote.{Vote}
 use Rattle.letters.specs.Certificates.{certificate_digest, result_of}
 use Rattle.ballots.specs.declared.Pair.{Pair}
-use Rattle.controllerunits.specs.declared.controller.Controller.{Controller}
-use Rattle.controllerunits.specs.declared.controller.MoveRecord.{MoveRecord}
-use Rattle.controllerunits.specs.declared.controller.Proposal.{Proposal}
-use Rattle.controllerunits.specs.declared.controller.Round.{Round}
+use Rattle.controllers.specs.declared.controller.Controller.{Controller}
+use Rattle.controllers.specs.declared.controller.MoveRecord.{MoveRecord}
+use Rattle.controllers.specs.declared.controller.Proposal.{Proposal}
+use Rattle.controllers.specs.declared.controller.Round.{Round}
 use Rattle.agreement.specs.Seats.{Seats, count}
 use Rattle.agreement.specs.Calls.{Vault}
 use Rattle.agreement.proofs.Meet.{seats, Few, Honest, Backed, backed_map}
@@ -28,8 +28,8 @@ use Rattle.agreement.proofs.Words.{Words, enrols, receipt, order, summons, ready
 use Rattle.terms.specs.Numbers.{view_of, seat}
 use Rattle.terms.specs.Parties.{leader_of}
 use Rattle.terms.specs.Sizes.{seat_count}
-use Rattle.controllerunits.specs.Letters.{fresh_controller}
-use Rattle.controllerunits.specs.Rules.{ordered_number}
+use Rattle.controllers.specs.Letters.{fresh_controller}
+use Rattle.controllers.specs.Rules.{ordered_number}
 use Rattle.agreement.proofs.Core.{AtLeast, Supported, Decided, Confirmed, Moved, Receipt, Ready, Ordered}
 use Rattle.agreement.proofs.Kept.{assented_more, supported_more, none_said, none_assented}
 use Rattle.agreement.proofs.Tools.{Silent, Mute, older, older_voice, none_some, row_blank}

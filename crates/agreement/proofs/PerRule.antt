@@ -17,10 +17,10 @@ use Rattle.letters.specs.declared.certificates.Order.{Order}
 use Rattle.letters.specs.declared.certificates.Vote.{Vote}
 use Rattle.letters.specs.Certificates.{certificate_digest, result_of}
 use Rattle.ballots.specs.declared.Pair.{Pair}
-use Rattle.controllerunits.specs.declared.controller.Controller.{Controller}
-use Rattle.controllerunits.specs.declared.controller.MoveRecord.{MoveRecord}
-use Rattle.controllerunits.specs.declared.controller.Proposal.{Proposal}
-use Rattle.controllerunits.specs.declared.controller.Round.{Round}
+use Rattle.controllers.specs.declared.controller.Controller.{Controller}
+use Rattle.controllers.specs.declared.controller.MoveRecord.{MoveRecord}
+use Rattle.controllers.specs.declared.controller.Proposal.{Proposal}
+use Rattle.controllers.specs.declared.controller.Round.{Round}
 use Rattle.agreement.specs.Seats.{Seats, count}
 use Rattle.agreement.specs.Calls.{Vault}
 use Rattle.agreement.proofs.Meet.{seats, Few, Honest, Backed, backed_map}
@@ -38,9 +38,9 @@ use Rattle.ballots.specs.Counts.{votes_for, count_agree}
 use Rattle.ballots.specs.Kinds.{same_outcome, same_pair}
 use Rattle.posting.specs.declared.few.AtMostTwo.TheVariants.{Nothing, One, Two}
 use Rattle.posting.specs.Replies.{Reply, refused, served, Bodies, refuse_if, given, passing}
-use Rattle.controllerunits.specs.declared.controller.Draft.{Draft}
-use Rattle.controllerunits.specs.Choice.{same_view, stands_in, names, best, all_recorded, covers, picked}
-use Rattle.controllerunits.specs.Rules as C
+use Rattle.controllers.specs.declared.controller.Draft.{Draft}
+use Rattle.controllers.specs.Choice.{same_view, stands_in, names, best, all_recorded, covers, picked}
+use Rattle.controllers.specs.Rules as C
 use Rattle.agreement.specs.Runs.{Among, here as first, there as later}
 use Rattle.agreement.proofs.Words.{words_of, spoken, voted}
 use Rattle.agreement.proofs.Core.{Included, Supported, Chosen, Free, Ground, first as ground-first, chosen, free, Confirmed, Moved, Receipt, Ready, Ordered}

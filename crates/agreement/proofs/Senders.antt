@@ -24,14 +24,14 @@ use Rattle.boards.specs.Boards.{Meaning, stages}
 use Rattle.letters.specs.Senders.{sender_of}
 use Rattle.posting.specs.declared.few.AtMostTwo.TheVariants.{Nothing, One, Two}
 use Rattle.posting.specs.Replies.{Reply, refused, served, Bodies, passing}
-use Rattle.controllerunits.specs.declared.controller.Controller.{Controller}
-use Rattle.controllerunits.specs.declared.controller.Draft.{Draft}
-use Rattle.controllerunits.specs.declared.controller.Proposal.{Proposal}
-use Rattle.controllerunits.specs.Letters as CL
-use Rattle.controllerunits.specs.Rules as C
-use Rattle.lockunits.specs.declared.lock.Lock.{Lock}
-use Rattle.lockunits.specs.Letters as LL
-use Rattle.lockunits.specs.Rules as L
+use Rattle.controllers.specs.declared.controller.Controller.{Controller}
+use Rattle.controllers.specs.declared.controller.Draft.{Draft}
+use Rattle.controllers.specs.declared.controller.Proposal.{Proposal}
+use Rattle.controllers.specs.Letters as CL
+use Rattle.controllers.specs.Rules as C
+use Rattle.locks.specs.declared.lock.Lock.{Lock}
+use Rattle.locks.specs.Letters as LL
+use Rattle.locks.specs.Rules as L
 use Rattle.steps.specs.Steps.{ControllerStep, to_controller, rings, proposes, controller_reply}
 use Rattle.agreement.specs.Seats.{Seats}
 use Rattle.agreement.specs.Calls.{Vault}

@@ -21,12 +21,12 @@ use Rattle.posting.specs.Calls as U
 use Rattle.posting.specs.Calls.{has_room, pointed, called, finished}
 use Rattle.posting.specs.Posting.{letters_of, lengths_of, bytes_of, fits, needed}
 use Rattle.posting.specs.Replies.{Reply, refused, served, Bodies, after}
-use Rattle.controllerunits.specs.declared.controller.Controller.{Controller}
-use Rattle.controllerunits.specs.Letters.{fresh_controller}
-use Rattle.lockunits.specs.declared.lock.Lock.{Lock}
-use Rattle.lockunits.specs.Fresh.{fresh_lock}
-use Rattle.lockunits.specs.Rules as L
-use Rattle.lockunits.specs.Rules.{replied, deed_done, board_after, lock_after}
+use Rattle.controllers.specs.declared.controller.Controller.{Controller}
+use Rattle.controllers.specs.Letters.{fresh_controller}
+use Rattle.locks.specs.declared.lock.Lock.{Lock}
+use Rattle.locks.specs.Fresh.{fresh_lock}
+use Rattle.locks.specs.Rules as L
+use Rattle.locks.specs.Rules.{replied, deed_done, board_after, lock_after}
 use Rattle.office.specs.declared.Office.{Office}
 use Rattle.steps.specs.Outputs.{letters_in}
 use Rattle.steps.specs.RangeLaws.{SendsInRange}

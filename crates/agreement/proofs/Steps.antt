@@ -17,17 +17,17 @@ use Rattle.letters.specs.declared.certificates.Order.{Order}
 use Rattle.letters.specs.declared.certificates.Vote.{Vote}
 use Rattle.letters.specs.Certificates.{certificate_digest, result_of}
 use Rattle.ballots.specs.declared.Pair.{Pair}
-use Rattle.controllerunits.specs.declared.controller.Controller.{Controller}
-use Rattle.controllerunits.specs.declared.controller.MoveRecord.{MoveRecord}
-use Rattle.controllerunits.specs.declared.controller.Proposal.{Proposal}
-use Rattle.controllerunits.specs.declared.controller.Round.{Round}
+use Rattle.controllers.specs.declared.controller.Controller.{Controller}
+use Rattle.controllers.specs.declared.controller.MoveRecord.{MoveRecord}
+use Rattle.controllers.specs.declared.controller.Proposal.{Proposal}
+use Rattle.controllers.specs.declared.controller.Round.{Round}
 use Rattle.agreement.specs.Seats.{Seats, count}
 use Rattle.agreement.specs.Calls.{Vault}
 use Rattle.agreement.proofs.Meet.{seats, Few, Honest, Backed, backed_map}
 use Rattle.agreement.proofs.Words.{Words, enrols, receipt, order, summons, ready, refuses, propose, assent, confirm, result, move, Brief, bare, built, brief, Saying, says, Log, Said, here, there, Assented, proposed, assented, lock_party, office}
 use Rattle.std.proofs.lemmas.List.{get_or-set_other}
 use Rattle.std.proofs.lemmas.Bool.{both_ways}
-use Rattle.controllerunits.specs.Rules as C
+use Rattle.controllers.specs.Rules as C
 use Rattle.agreement.proofs.Core.{AtLeast, Supported, Decided, Ground, Rules, Speaks, Confirms, Moves, Allowed, Confirmed, Moved, Receipt, Ready, Ordered}
 use Rattle.agreement.proofs.Kept.{supported_more, said_cases, step}
 use Rattle.agreement.proofs.Tools.{silent_kind, none_some, some_same, row_blank, row_cases, on_set, on_set_same}

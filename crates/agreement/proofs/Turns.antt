@@ -17,10 +17,10 @@ use Rattle.letters.specs.declared.certificates.Order.{Order}
 use Rattle.letters.specs.declared.certificates.Vote.{Vote}
 use Rattle.letters.specs.Certificates.{certificate_digest, result_of}
 use Rattle.ballots.specs.declared.Pair.{Pair}
-use Rattle.controllerunits.specs.declared.controller.Controller.{Controller}
-use Rattle.controllerunits.specs.declared.controller.MoveRecord.{MoveRecord}
-use Rattle.controllerunits.specs.declared.controller.Proposal.{Proposal}
-use Rattle.controllerunits.specs.declared.controller.Round.{Round}
+use Rattle.controllers.specs.declared.controller.Controller.{Controller}
+use Rattle.controllers.specs.declared.controller.MoveRecord.{MoveRecord}
+use Rattle.controllers.specs.declared.controller.Proposal.{Proposal}
+use Rattle.controllers.specs.declared.controller.Round.{Round}
 use Rattle.agreement.specs.Seats.{Seats, count}
 use Rattle.agreement.specs.Calls.{Vault}
 use Rattle.agreement.proofs.Meet.{seats, Few, Honest, Backed, backed_map}
@@ -40,7 +40,7 @@ use Rattle.letters.specs.Inner.{bears, rows_borne, enrol_row, vote_row, vote_bor
 use Rattle.letters.specs.Sorts.{stands}
 use Rattle.letters.specs.Statements.{order_statement, vote_statement, proposal_statement, assent_statement}
 use Rattle.posting.specs.Replies.{Reply, refused, served, Bodies}
-use Rattle.controllerunits.specs.Choice.{stands_in, names, best}
+use Rattle.controllers.specs.Choice.{stands_in, names, best}
 use Rattle.agreement.specs.Runs.{Among, here as first, there as later}
 use Rattle.agreement.proofs.Words.{words_of, spoken, outcome_told, outcome_in}
 use Rattle.agreement.proofs.Core.{AtMost, Included, Supported, Chosen, Moved, Receipt, Ready, Ordered}

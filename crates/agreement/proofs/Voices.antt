@@ -17,10 +17,10 @@ use Rattle.letters.specs.declared.certificates.Order.{Order}
 use Rattle.letters.specs.declared.certificates.Vote.{Vote}
 use Rattle.letters.specs.Certificates.{certificate_digest, result_of}
 use Rattle.ballots.specs.declared.Pair.{Pair}
-use Rattle.controllerunits.specs.declared.controller.Controller.{Controller}
-use Rattle.controllerunits.specs.declared.controller.MoveRecord.{MoveRecord}
-use Rattle.controllerunits.specs.declared.controller.Proposal.{Proposal}
-use Rattle.controllerunits.specs.declared.controller.Round.{Round}
+use Rattle.controllers.specs.declared.controller.Controller.{Controller}
+use Rattle.controllers.specs.declared.controller.MoveRecord.{MoveRecord}
+use Rattle.controllers.specs.declared.controller.Proposal.{Proposal}
+use Rattle.controllers.specs.declared.controller.Round.{Round}
 use Rattle.agreement.specs.Seats.{Seats, count}
 use Rattle.agreement.specs.Calls.{Vault}
 use Rattle.agreement.proofs.Meet.{seats, Few, Honest, Backed, backed_map}
@@ -30,7 +30,7 @@ use Rattle.std.proofs.lemmas.Bool.{both_ways, eqb-true, or_cases}
 use Rattle.terms.specs.Sizes.{seat_count, quorum_of}
 use Rattle.ballots.specs.Counts.{votes_for, count_agree}
 use Rattle.ballots.specs.Kinds.{same_pair}
-use Rattle.controllerunits.specs.Rules as C
+use Rattle.controllers.specs.Rules as C
 use Rattle.agreement.proofs.Core.{AtLeast, Supported, Decided, Ground, Rules, Speaks, Confirms, Allowed, Confirmed, Ready, Ordered}
 use Rattle.agreement.proofs.Kept.{assented_more, assented_cases, Voice, by_propose, by_assent, supported_more, said_cases, step}
 use Rattle.agreement.proofs.Tools.{silent_kind, none_some, some_same, row_cases, is_some, count_with, votes_some, agree_count}

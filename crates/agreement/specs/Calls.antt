@@ -26,15 +26,15 @@ use Rattle.posting.specs.Calls as Unit-calls
 use Rattle.posting.specs.Calls.{has_room, pointed, called, reply_sealed}
 use Rattle.posting.specs.Posting.{are_words}
 use Rattle.posting.specs.Replies.{Reply}
-use Rattle.controllerunits.specs.declared.controller.Controller.{Controller}
-use Rattle.controllerunits.specs.Letters as Controllers
-use Rattle.controllerunits.specs.Letters.{fresh_controller}
-use Rattle.controllerunits.specs.Rules.{ring_rule, propose_rule}
-use Rattle.lockunits.specs.declared.lock.Lock.{Lock}
-use Rattle.lockunits.specs.Fresh.{fresh_lock}
-use Rattle.lockunits.specs.Letters as Locks
-use Rattle.lockunits.specs.Rules as Lock-rules
-use Rattle.lockunits.specs.Rules.{replied, board_called, enrol_rule, decline_rule}
+use Rattle.controllers.specs.declared.controller.Controller.{Controller}
+use Rattle.controllers.specs.Letters as Controllers
+use Rattle.controllers.specs.Letters.{fresh_controller}
+use Rattle.controllers.specs.Rules.{ring_rule, propose_rule}
+use Rattle.locks.specs.declared.lock.Lock.{Lock}
+use Rattle.locks.specs.Fresh.{fresh_lock}
+use Rattle.locks.specs.Letters as Locks
+use Rattle.locks.specs.Rules as Lock-rules
+use Rattle.locks.specs.Rules.{replied, board_called, enrol_rule, decline_rule}
 use Rattle.office.specs.declared.Office.{Office}
 use Rattle.office.specs.Rules.{order_reply}
 

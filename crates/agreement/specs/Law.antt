@@ -13,7 +13,7 @@ use Rattle.letters.specs.declared.sorts.Digest.{Digest}
 use Rattle.letters.specs.Ranges.{is_byte, is_word, number_fits}
 use Rattle.letters.specs.Statements.{order_statement, vote_statement, proposal_statement, assent_statement, outcome_number}
 use Rattle.boards.specs.Boards.{in_force}
-use Rattle.lockunits.specs.declared.lock.Standing.TheVariants as S
+use Rattle.locks.specs.declared.lock.Standing.TheVariants as S
 use Rattle.agreement.specs.Seats.{Seats, count, faulty}
 use Rattle.agreement.specs.Calls.{Vault, State, controller_at, lock_at, Call, Went, Step}
 use Rattle.agreement.specs.Runs.{SetUp, InBytes, Run, Given, given_at, given_out, HasGiven, Fair, Sound, receipt_at, receipts_served}

@@ -23,8 +23,8 @@ use Rattle.seals.specs.Opening.{Relation, accepted, sender_borne}
 use Rattle.boards.specs.Boards.{how_many, staged_at}
 use Rattle.posting.specs.declared.few.AtMostTwo.{AtMostTwo}
 use Rattle.posting.specs.declared.few.AtMostTwo.TheVariants.{Nothing, One, Two}
-use Rattle.controllerunits.specs.Letters.{fresh_controller}
-use Rattle.lockunits.specs.Fresh.{fresh_lock}
+use Rattle.controllers.specs.Letters.{fresh_controller}
+use Rattle.locks.specs.Fresh.{fresh_lock}
 use Rattle.office.specs.Rules.{office}
 use Rattle.agreement.specs.Calls.{Vault, State, controller_at, lock_at, Request, orders, enrols, declines, rings, proposes, hands_in, Call, Went, Step}
 

@@ -1,5 +1,5 @@
 -- The rules of a controller: guards in order, then what the controller becomes and what it sends.
-use Rattle.std.specs.Prelude.{ℕ, ◌+◌, ◌*◌, Bool, true, false, cond, not, ◌&&◌, ◌||◌, List, replicate, is_some, Some, None, Ok, Err, Option, Result, ◌==◌, nat_eq, nat_le, nat_lt, slice_index_or, slice_set}
+use Rattle.std.specs.Prelude.{◌≡◌, ℕ, ◌+◌, ◌*◌, Bool, true, false, cond, not, ◌&&◌, ◌||◌, List, replicate, is_some, Some, None, Ok, Err, Option, Result, ◌==◌, nat_eq, nat_le, nat_lt, slice_index_or, slice_set}
 use Rattle.terms.specs.declared.numbers.Change.{Change}
 use Rattle.terms.specs.declared.numbers.KeyNumber.{KeyNumber}
 use Rattle.terms.specs.declared.numbers.Place.{Place}
@@ -27,39 +27,24 @@ use Rattle.letters.specs.Sorts.{seat_set}
 use Rattle.ballots.specs.declared.Pair.{Pair}
 use Rattle.ballots.specs.Counts.{count_agree}
 use Rattle.ballots.specs.Kinds.{same_outcome, same_pair}
+use Rattle.posting.specs.declared.few.AtMostTwo.TheVariants.{Nothing, One, Two}
+use Rattle.posting.specs.Replies as Replies
+use Rattle.posting.specs.Replies.{Bodies, refused, served, refuse_if, given, passing}
 use Rattle.controllers.specs.declared.controller.Controller.{Controller}
 use Rattle.controllers.specs.declared.controller.Draft.{Draft}
 use Rattle.controllers.specs.declared.controller.MoveRecord.{MoveRecord}
 use Rattle.controllers.specs.declared.controller.Proposal.{Proposal}
 use Rattle.controllers.specs.declared.controller.Round.{Round}
-use Rattle.controllers.specs.declared.rules.Bodies.{Bodies}
-use Rattle.controllers.specs.declared.rules.Bodies.TheVariants.{Nothing, One, Two}
 use Rattle.controllers.specs.Choice.{same_view, best, all_recorded, covers, picked}
 
--- refused, and nothing changes; or served: the controller, and what it sends
-pub data Reply : Type 0 where
-  refused : RuleCause → Reply
-  served : Controller → Bodies → Reply
+-- refused, or served: the controller, and what it sends
+abbrev pub Reply : Type 0
+Reply = Replies.Reply RuleCause Controller
 
-abbrev pub sends : Reply → Result Bodies RuleCause
-sends (refused c) = Err c
-sends (served u b) = Ok b
-
-abbrev pub after : Controller → Reply → Controller
-after u (refused c) = u
-after u (served u' b) = u'
-
-abbrev pub refuse_if : Bool → RuleCause → Result (Unit {0}) RuleCause → Result (Unit {0}) RuleCause
-refuse_if t c rest = cond t (Err c) rest
-
-abbrev pub given : {A : Type 0} → Option A → RuleCause → (A → Result (Unit {0}) RuleCause) → Result (Unit {0}) RuleCause
-given None c rest = Err c
-given (Some a) c rest = rest a
-
--- the guards, then the rest
-abbrev pub passing : Result (Unit {0}) RuleCause → Reply → Reply
-passing (Err c) rest = refused c
-passing (Ok x) rest = rest
+-- a rule was followed: what it sends or its refusal is answered, and the controller is what it makes of it
+pub record Follows (u : Controller) (r : Reply) (said : Result Bodies RuleCause) (v : Controller) : Type 0 where
+  pub answer : said ≡ Replies.sends r
+  pub unit : v ≡ Replies.after u r
 
 -- ---- the controller with a field replaced
 
@@ -191,10 +176,15 @@ proposal x c d z = record { outcome = x; digest = d; certificate = c; seal = z }
 abbrev pub held : Controller → Proposal → Seal → Controller
 held u p own = with_round (hold u p) (assented (hold u p).round u.seat (pair_of p) own)
 
+abbrev pub assenting : Controller → Proposal → Seal → Reply
+assenting u p own = served (held u p own) (One (B.Assent u.seat u.view p.outcome p.digest))
+
+abbrev pub judged : Sizes → Change → Controller → View → SeatSet → Proposal → Seal → Reply
+judged sizes t u v m p own = passing (may_hold sizes t u v p.outcome p.certificate p.digest m) (assenting u p own)
+
+-- `z` is the leader's seal
 abbrev pub proposal_rule : Sizes → Change → Controller → View → Outcome → Certificate → SeatSet → Seal → Seal → Reply
-proposal_rule sizes t u v x c m z own =
-    passing (may_hold sizes t u v x c (certificate_digest c) m)
-    (served (held u (proposal x c (certificate_digest c) z) own) (One (B.Assent u.seat u.view x (certificate_digest c))))
+proposal_rule sizes t u v x c m z own = judged sizes t u v m (proposal x c (certificate_digest c) z) own
 
 -- ---- taking the result
 
@@ -208,6 +198,13 @@ concludes sizes u x = confirmed_here u && (nat_le (quorum_of sizes) (count_agree
 
 abbrev pub concluded : Sizes → Controller → Pair → Controller
 concluded sizes u x = cond (concludes sizes u x) (with_result u (Some x.outcome)) u
+
+-- ---- assent and confirm: 11 not the own view; 9 no proposal is held; 12 outcome or digest differ
+
+abbrev pub may_second : Controller → View → Pair → Result (Unit {0}) RuleCause
+may_second u v x =
+    refuse_if (not (v.0 == u.view.0)) R.OtherView
+    (given u.round.proposal R.OutOfTurn (λ p. refuse_if (not (same_pair x (pair_of p))) R.Differs (Ok tt)))
 
 -- ---- assent: 11; 9 no proposal is held; 12 outcome or digest differ; 10 the seat is recorded, or 2f are; recorded; the 2f-th makes
 -- the basis, and the own confirm is recorded and sent
@@ -346,10 +343,11 @@ may_propose sizes t u =
     (drafted (draft_of sizes u))))
 
 -- `own` is the seal that the leader puts under its proposal
+abbrev pub drawn_up : Controller → Draft → Seal → Controller
+drawn_up u d own = hold u (proposal d.outcome d.certificate (certificate_digest d.certificate) own)
+
 abbrev pub proposed : Controller → Draft → Seal → Reply
-proposed u d own =
-    served (hold u (proposal d.outcome d.certificate (certificate_digest d.certificate) own))
-    (One (B.Proposal u.seat u.view d.outcome d.certificate d.movers))
+proposed u d own = served (drawn_up u d own) (One (B.Proposal u.seat u.view d.outcome d.certificate d.movers))
 
 abbrev pub proposing : Controller → Result Draft RuleCause → Seal → Reply
 proposing u (Err c) own = refused c

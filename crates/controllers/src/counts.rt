@@ -19,10 +19,11 @@ impl Ballot for MoveRecord {
     ghost agrees_across = { Prim.search rules };
 
     fn agrees(&self, other: &MoveRecord) -> bool {
-        self.view.number() == other.view.number()
+        self.view == other.view
     }
 }
 
+// By index, as an entry of a table is: for `SeatSet::holds` an index would first have to become a seat.
 fn stands(map: u16, seat: u8) -> bool
     requires { seat < 16 }
     ensures { result ≡ Choice.stands_in map seat }
@@ -34,10 +35,7 @@ fn stands(map: u16, seat: u8) -> bool
 pub(crate) fn names(slot: Option<MoveRecord>, view: View) -> bool
     ensures { result ≡ Choice.names slot view }
 {
-    match slot {
-        Some(record) => record.view.number() == view.number(),
-        None => false,
-    }
+    slot.is_some_and(|record| record.view == view)
 }
 
 // The basis that a mover's record of a view has.
@@ -47,10 +45,7 @@ fn offer(mover: bool, slot: Option<MoveRecord>, view: View) -> Option<Basis>
     if !mover || !names(slot, view) {
         return None;
     }
-    match slot {
-        Some(record) => record.basis,
-        None => None,
-    }
+    slot.and_then(|record| record.basis)
 }
 
 // The one with the higher view; at a tie the first.
@@ -63,7 +58,7 @@ fn better(best: Option<Basis>, next: Option<Basis>) -> Option<Basis>
     let Some(held) = best else {
         return Some(next);
     };
-    if held.view.number() < next.view.number() {
+    if held.view < next.view {
         Some(next)
     } else {
         Some(held)
@@ -74,36 +69,26 @@ fn better(best: Option<Basis>, next: Option<Basis>) -> Option<Basis>
 pub(crate) fn choose(records: &[Option<MoveRecord>], movers: SeatSet, view: View) -> Option<Basis>
     ensures { result ≡ Choice.best records.now movers.0 view 16 }
 {
-    let mut best: Option<Basis> = None;
-    for seat in 0..16u8 {
-        best = better(
+    (0..16u8).fold(None, |best, seat| {
+        better(
             best,
             offer(stands(movers.0, seat), entry(records, seat), view),
-        );
-    }
-    best
+        )
+    })
 }
 
 // Each mover has a record of the view.
 pub(crate) fn all_recorded(records: &[Option<MoveRecord>], movers: SeatSet, view: View) -> bool
     ensures { result ≡ Choice.all_recorded records.now movers.0 view 16 }
 {
-    let mut all = true;
-    for seat in 0..16u8 {
-        all = all && (!stands(movers.0, seat) || names(entry(records, seat), view));
-    }
-    all
+    (0..16u8).all(|seat| !stands(movers.0, seat) || names(entry(records, seat), view))
 }
 
 // Each registered place is enrolled in a certificate.
 pub(crate) fn covers(registered: &[Option<Seal>], enrolled: &[Option<Seal>]) -> bool
     ensures { result ≡ Choice.covers registered.now enrolled.now 8 }
 {
-    let mut all = true;
-    for place in 0..8u8 {
-        all = all && (entry(registered, place).is_none() || entry(enrolled, place).is_some());
-    }
-    all
+    (0..8u8).all(|place| entry(registered, place).is_none() || entry(enrolled, place).is_some())
 }
 
 fn bit_of(seat: u8) -> u16
@@ -135,6 +120,7 @@ fn add_seat(picked: Picked, seat: u8, quorum: u8, named: bool) -> Picked
 pub(crate) fn pick(records: &[Option<MoveRecord>], view: View, quorum: u8) -> SeatSet
     ensures { result.0 ≡ (Choice.picked records.now view quorum 16).map }
 {
+    // A loop: each step asks that the map is below this seat's bit, which a fold doesn't tell its closure.
     let mut picked = Picked { map: 0, count: 0 };
     for seat in 0..16u8 {
         picked = add_seat(picked, seat, quorum, names(entry(records, seat), view));

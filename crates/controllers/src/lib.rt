@@ -1,7 +1,9 @@
 // A controller, by its rules.
 #![tactic(auto)]
 
+mod calls;
 pub mod controller;
 mod counts;
-pub mod rules;
+mod letters_in;
+mod rules;
 mod views;

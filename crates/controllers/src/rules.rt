@@ -1,6 +1,7 @@
 // The rules of a controller: guards in order, then what it becomes and what it sends.
 ghost use Rattle.std.specs.Prelude.{◌≡◌, ℕ, ◌+◌, ◌*◌, ◌<◌, ◌≤◌, length};
 ghost use Rattle.controllers.specs.Rules as Rules;
+ghost use Rattle.posting.specs.Replies as Replies;
 
 use crate::controller::{Controller, MoveRecord, Proposal, Round};
 use crate::counts::{all_recorded, choose, covers};
@@ -8,29 +9,12 @@ use ballots::{Pair, entry, put, tally};
 use letters::bodies::Body;
 use letters::certificates::{Basis, Certificate, Order, Vote};
 use letters::sorts::{Answer, Digest, Seal, SeatSet};
+use posting::few::AtMostTwo;
 use terms::numbers::{Change, KeyNumber, Place, Seat, View};
 use terms::parties::Outcome;
 use terms::refusals::RuleCause;
 use terms::sizes::Sizes;
 use writing::certificates::certificate_digest;
-
-// What is to be sent: nothing, one letter, or two.
-#[derive(Clone, Copy)]
-pub enum Bodies {
-    Nothing,
-    One(Body<Certificate, Basis>),
-    Two(Body<Certificate, Basis>, Body<Certificate, Basis>),
-}
-
-fn same_number(a: Option<KeyNumber>, b: Option<KeyNumber>) -> bool
-    ensures { result ≡ Rules.same_number a b }
-{
-    match (a, b) {
-        (None, None) => true,
-        (Some(m), Some(n)) => m.value() == n.value(),
-        _ => false,
-    }
-}
 
 fn may_order(held: Option<Order>, number: Option<KeyNumber>) -> Result<(), RuleCause>
     ensures { result ≡ Rules.may_order held number }
@@ -38,18 +22,23 @@ fn may_order(held: Option<Order>, number: Option<KeyNumber>) -> Result<(), RuleC
     let Some(held) = held else {
         return Ok(());
     };
-    if same_number(held.number, number) {
+    if held.number == number {
         return Err(RuleCause::Repeated);
     }
     Err(RuleCause::Differs)
 }
 
-fn summons(sender: Seat, number: Option<KeyNumber>, office_seal: Seal) -> Bodies
+fn summons(
+    sender: Seat,
+    number: Option<KeyNumber>,
+    office_seal: Seal,
+) -> AtMostTwo<Body<Certificate, Basis>>
     ensures { result ≡ Rules.summons sender number office_seal }
 {
+    // Two arms: a conversion of an option into at most two would serve here alone.
     match number {
-        None => Bodies::Nothing,
-        Some(number) => Bodies::One(Body::Summons {
+        None => AtMostTwo::Nothing,
+        Some(number) => AtMostTwo::One(Body::Summons {
             sender,
             number,
             office_seal,
@@ -60,10 +49,7 @@ fn summons(sender: Seat, number: Option<KeyNumber>, office_seal: Seal) -> Bodies
 fn ordered_number(order: Option<Order>) -> Option<KeyNumber>
     ensures { result ≡ Rules.ordered_number order }
 {
-    match order {
-        Some(order) => order.number,
-        None => None,
-    }
+    order.and_then(|order| order.number)
 }
 
 impl Controller {
@@ -80,13 +66,16 @@ impl Controller {
     }
 
     // A lock enrols: its place is registered.
-    pub(crate) fn take_enrol(&mut self, place: Place, seal: Seal) -> Result<Bodies, RuleCause>
-        ensures answer { result ≡ Rules.sends (Rules.enrol_rule self.old place seal) }
-        ensures unit { self.new ≡ Rules.after self.old (Rules.enrol_rule self.old place seal) }
+    pub(crate) fn take_enrol(
+        &mut self,
+        place: Place,
+        seal: Seal,
+    ) -> Result<AtMostTwo<Body<Certificate, Basis>>, RuleCause>
+        ensures { Rules.Follows self.old (Rules.enrol_rule self.old place seal) result self.new }
     {
         self.may_enrol(place)?;
         put(&mut self.registered, place.number(), Some(seal));
-        Ok(Bodies::One(Body::Receipt {
+        Ok(AtMostTwo::One(Body::Receipt {
             sender: self.seat,
             place,
         }))
@@ -97,9 +86,8 @@ impl Controller {
         &mut self,
         number: Option<KeyNumber>,
         seal: Seal,
-    ) -> Result<Bodies, RuleCause>
-        ensures answer { result ≡ Rules.sends (Rules.order_rule self.old number seal) }
-        ensures unit { self.new ≡ Rules.after self.old (Rules.order_rule self.old number seal) }
+    ) -> Result<AtMostTwo<Body<Certificate, Basis>>, RuleCause>
+        ensures { Rules.Follows self.old (Rules.order_rule self.old number seal) result self.new }
     {
         may_order(self.order, number)?;
         self.order = Some(Order { number, seal });
@@ -115,7 +103,7 @@ impl Controller {
         if entry(&self.registered, place.number()).is_none() {
             return Err(RuleCause::OutOfTurn);
         }
-        if ordered.value() != number.value() {
+        if ordered != number {
             return Err(RuleCause::Differs);
         }
         if entry(&self.votes, place.number()).is_some() {
@@ -131,12 +119,11 @@ impl Controller {
         number: KeyNumber,
         answer: Answer,
         seal: Seal,
-    ) -> Result<Bodies, RuleCause>
-        ensures answer { result ≡ Rules.sends (Rules.vote_rule self.old place number answer seal) }
-        ensures unit { self.new ≡ Rules.after self.old (Rules.vote_rule self.old place number answer seal) }
+    ) -> Result<AtMostTwo<Body<Certificate, Basis>>, RuleCause>
+        ensures { Rules.Follows self.old (Rules.vote_rule self.old place number answer seal) result self.new }
     {
         self.may_vote(place, number)?;
         put(&mut self.votes, place.number(), Some(Vote { answer, seal }));
-        Ok(Bodies::Nothing)
+        Ok(AtMostTwo::Nothing)
     }
 }

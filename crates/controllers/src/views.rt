@@ -1,30 +1,22 @@
 // The rules of a controller on proposals, assents, confirms and views.
 ghost use Rattle.std.specs.Prelude.{◌≡◌, ℕ, ◌+◌, ◌*◌, ◌<◌, ◌≤◌, length, Ok};
 ghost use Rattle.controllers.specs.Rules as Rules;
+ghost use Rattle.posting.specs.Replies as Replies;
 
 use crate::controller::{Controller, Draft, MoveRecord, Proposal, Round};
 use crate::counts::{all_recorded, choose, covers, pick};
-use crate::rules::Bodies;
 use ballots::{Ballot, Pair, entry, put, tally};
 use letters::bodies::Body;
-use letters::certificates::{Basis, Certificate, Order};
+use letters::certificates::{Basis, Certificate};
 use letters::sorts::{Digest, Seal, SeatSet};
+use posting::few::AtMostTwo;
 use terms::numbers::{Change, Seat, View};
 use terms::parties::Outcome;
 use terms::refusals::RuleCause;
 use terms::sizes::Sizes;
 use writing::certificates::certificate_digest;
 
-fn or_else(held: Option<Order>, other: Order) -> Option<Order>
-    ensures { result ≡ Rules.or_else held other }
-{
-    match held {
-        Some(held) => Some(held),
-        None => Some(other),
-    }
-}
-
-fn empty_round() -> Round
+pub(crate) fn empty_round() -> Round
     ensures { result ≡ Rules.empty_round }
 {
     Round {
@@ -38,18 +30,24 @@ fn empty_round() -> Round
 fn names_from(slot: Option<MoveRecord>, view: View) -> bool
     ensures { result ≡ Rules.names_from slot view }
 {
-    match slot {
-        Some(record) => record.view.number() >= view.number(),
-        None => false,
-    }
+    slot.is_some_and(|record| record.view >= view)
 }
 
 fn false_basis(basis: &Option<Basis>) -> bool
     ensures { result ≡ Rules.false_basis basis.now }
 {
-    match basis {
-        Some(basis) => !basis.certificate.result().agrees(&basis.outcome),
-        None => false,
+    basis.is_some_and(|basis| !basis.certificate.result().agrees(&basis.outcome))
+}
+
+impl Proposal {
+    // What a ballot on it stands for.
+    fn pair(&self) -> Pair
+        ensures { result ≡ Rules.pair_of self.now }
+    {
+        Pair {
+            outcome: self.outcome,
+            digest: self.digest,
+        }
     }
 }
 
@@ -112,7 +110,7 @@ impl Controller {
     pub(crate) fn leads(&self, sizes: Sizes, change: Change) -> bool
         ensures { result ≡ Rules.leads sizes change self.now }
     {
-        sizes.leader(change, self.view).number() == self.seat.number()
+        sizes.leader(change, self.view) == self.seat
     }
 
     pub(crate) fn may_hold(
@@ -127,7 +125,7 @@ impl Controller {
     ) -> Result<(), RuleCause>
         ensures { result ≡ Rules.may_hold sizes change self.now view outcome certificate.now digest movers }
     {
-        if view.number() != self.view.number() {
+        if view != self.view {
             return Err(RuleCause::OtherView);
         }
         if self.leads(sizes, change) {
@@ -149,7 +147,7 @@ impl Controller {
     pub(crate) fn hold(&mut self, proposal: Proposal)
         ensures { self.new ≡ Rules.hold self.old proposal }
     {
-        self.order = or_else(self.order, proposal.certificate.order);
+        self.order = self.order.or(Some(proposal.certificate.order));
         self.round.proposal = Some(proposal);
     }
 
@@ -158,21 +156,14 @@ impl Controller {
         ensures { self.new ≡ Rules.held self.old proposal own }
     {
         self.hold(proposal);
-        let pair = Pair {
-            outcome: proposal.outcome,
-            digest: proposal.digest,
-        };
         let seat = self.seat;
-        self.round.record_assent(seat, pair, own);
+        self.round.record_assent(seat, proposal.pair(), own);
     }
 
     fn confirmed_here(&self) -> bool
         ensures { result ≡ Rules.confirmed_here self.now }
     {
-        match self.basis {
-            Some(basis) => basis.view.number() == self.view.number(),
-            None => false,
-        }
+        self.basis.is_some_and(|basis| basis.view == self.view)
     }
 
     fn concludes(&self, sizes: Sizes, pair: Pair) -> bool
@@ -195,22 +186,24 @@ impl Controller {
         true
     }
 
+    // An assent or a confirm is of this view and on the held proposal.
+    fn may_second(&self, view: View, pair: Pair) -> Result<(), RuleCause>
+        ensures { result ≡ Rules.may_second self.now view pair }
+    {
+        if view != self.view {
+            return Err(RuleCause::OtherView);
+        }
+        let held = self.round.proposal.ok_or(RuleCause::OutOfTurn)?;
+        if !pair.agrees(&held.pair()) {
+            return Err(RuleCause::Differs);
+        }
+        Ok(())
+    }
+
     fn may_assent(&self, sizes: Sizes, seat: Seat, view: View, pair: Pair) -> Result<(), RuleCause>
         ensures { result ≡ Rules.may_assent sizes self.now seat view pair }
     {
-        if view.number() != self.view.number() {
-            return Err(RuleCause::OtherView);
-        }
-        let Some(held) = self.round.proposal else {
-            return Err(RuleCause::OutOfTurn);
-        };
-        let holds = Pair {
-            outcome: held.outcome,
-            digest: held.digest,
-        };
-        if !pair.agrees(&holds) {
-            return Err(RuleCause::Differs);
-        }
+        self.may_second(view, pair)?;
         if entry(&self.round.assents, seat.number()).is_some() {
             return Err(RuleCause::Repeated);
         }
@@ -257,20 +250,20 @@ impl Controller {
     }
 
     // With 2f assents recorded the controller confirms.
-    fn confirming(&mut self, sizes: Sizes, pair: Pair) -> Bodies
-        ensures answer { Ok result ≡ Rules.sends (Rules.confirming sizes self.old pair self.old.round.proposal) }
-        ensures unit { self.new ≡ Rules.after self.old (Rules.confirming sizes self.old pair self.old.round.proposal) }
+    #[tactic(auto, unfolding(crate::specs::Rules::confirming))]
+    fn confirming(&mut self, sizes: Sizes, pair: Pair) -> AtMostTwo<Body<Certificate, Basis>>
+        ensures { Rules.Follows self.old (Rules.confirming sizes self.old pair self.old.round.proposal) (Ok result) self.new }
     {
         let Some(held) = self.round.proposal else {
-            return Bodies::Nothing;
+            return AtMostTwo::Nothing;
         };
         let confirm = self.confirm_body(pair);
         let result = self.result_body(pair);
         self.confirm_own(held, pair);
         if !self.conclude(sizes, pair) {
-            return Bodies::One(confirm);
+            return AtMostTwo::One(confirm);
         }
-        Bodies::Two(confirm, result)
+        AtMostTwo::Two(confirm, result)
     }
 
     // A controller assents to the held proposal.
@@ -281,14 +274,13 @@ impl Controller {
         view: View,
         pair: Pair,
         seal: Seal,
-    ) -> Result<Bodies, RuleCause>
-        ensures answer { result ≡ Rules.sends (Rules.assent_rule sizes self.old seat view pair seal) }
-        ensures unit { self.new ≡ Rules.after self.old (Rules.assent_rule sizes self.old seat view pair seal) }
+    ) -> Result<AtMostTwo<Body<Certificate, Basis>>, RuleCause>
+        ensures { Rules.Follows self.old (Rules.assent_rule sizes self.old seat view pair seal) result self.new }
     {
         self.may_assent(sizes, seat, view, pair)?;
         self.round.record_assent(seat, pair, seal);
         if tally(&self.round.assents, &pair) < 2 * sizes.faults() as usize {
-            return Ok(Bodies::Nothing);
+            return Ok(AtMostTwo::Nothing);
         }
         Ok(self.confirming(sizes, pair))
     }
@@ -296,19 +288,7 @@ impl Controller {
     fn may_confirm(&self, seat: Seat, view: View, pair: Pair) -> Result<(), RuleCause>
         ensures { result ≡ Rules.may_confirm self.now seat view pair }
     {
-        if view.number() != self.view.number() {
-            return Err(RuleCause::OtherView);
-        }
-        let Some(held) = self.round.proposal else {
-            return Err(RuleCause::OutOfTurn);
-        };
-        let holds = Pair {
-            outcome: held.outcome,
-            digest: held.digest,
-        };
-        if !pair.agrees(&holds) {
-            return Err(RuleCause::Differs);
-        }
+        self.may_second(view, pair)?;
         if entry(&self.round.confirms, seat.number()).is_some() {
             return Err(RuleCause::Repeated);
         }
@@ -322,22 +302,21 @@ impl Controller {
         seat: Seat,
         view: View,
         pair: Pair,
-    ) -> Result<Bodies, RuleCause>
-        ensures answer { result ≡ Rules.sends (Rules.confirm_rule sizes self.old seat view pair) }
-        ensures unit { self.new ≡ Rules.after self.old (Rules.confirm_rule sizes self.old seat view pair) }
+    ) -> Result<AtMostTwo<Body<Certificate, Basis>>, RuleCause>
+        ensures { Rules.Follows self.old (Rules.confirm_rule sizes self.old seat view pair) result self.new }
     {
         self.may_confirm(seat, view, pair)?;
         self.round.record_confirm(seat, pair);
         let result = self.result_body(pair);
         if !self.conclude(sizes, pair) {
-            return Ok(Bodies::Nothing);
+            return Ok(AtMostTwo::Nothing);
         }
-        Ok(Bodies::One(result))
+        Ok(AtMostTwo::One(result))
     }
 
     // Enters a view: the round is forgotten, the own record stored with the own basis.
-    fn enter_view(&mut self, view: View) -> Bodies
-        ensures answer { Ok result ≡ Rules.sends (Rules.enter_view self.old view) }
+    fn enter_view(&mut self, view: View) -> AtMostTwo<Body<Certificate, Basis>>
+        ensures answer { Ok result ≡ Replies.sends (Rules.enter_view self.old view) }
         ensures unit { self.new ≡ Rules.entered self.old view }
     {
         let record = MoveRecord {
@@ -347,7 +326,7 @@ impl Controller {
         self.view = view;
         self.round = empty_round();
         put(&mut self.records, self.seat.number(), Some(record));
-        Bodies::One(Body::Move {
+        AtMostTwo::One(Body::Move {
             sender: self.seat,
             view,
             basis: self.basis,
@@ -357,10 +336,10 @@ impl Controller {
     fn may_move(&self, seat: Seat, view: View, basis: &Option<Basis>) -> Result<(), RuleCause>
         ensures { result ≡ Rules.may_move self.now seat view basis.now }
     {
-        if view.number() < self.view.number() {
+        if view < self.view {
             return Err(RuleCause::OtherView);
         }
-        if view.number() == self.view.number() && self.round.proposal.is_some() {
+        if view == self.view && self.round.proposal.is_some() {
             return Err(RuleCause::OutOfTurn);
         }
         if names_from(entry(&self.records, seat.number()), view) {
@@ -385,9 +364,8 @@ impl Controller {
         seat: Seat,
         view: View,
         basis: Option<Basis>,
-    ) -> Result<Bodies, RuleCause>
-        ensures answer { result ≡ Rules.sends (Rules.move_rule sizes self.old seat view basis) }
-        ensures unit { self.new ≡ Rules.after self.old (Rules.move_rule sizes self.old seat view basis) }
+    ) -> Result<AtMostTwo<Body<Certificate, Basis>>, RuleCause>
+        ensures { Rules.Follows self.old (Rules.move_rule sizes self.old seat view basis) result self.new }
     {
         self.may_move(seat, view, &basis)?;
         put(
@@ -395,24 +373,19 @@ impl Controller {
             seat.number(),
             Some(MoveRecord { view, basis }),
         );
-        if self.view.number() < view.number()
-            && self.record_count(view) >= sizes.faults() as usize + 1
-        {
+        if self.view < view && self.record_count(view) >= sizes.faults() as usize + 1 {
             return Ok(self.enter_view(view));
         }
-        Ok(Bodies::Nothing)
+        Ok(AtMostTwo::Nothing)
     }
 
     // The view has lasted too long: the controller enters the next one.
-    pub(crate) fn take_ring(&mut self) -> Result<Bodies, RuleCause>
-        ensures answer { result ≡ Rules.sends (Rules.ring_rule self.old) }
-        ensures unit { self.new ≡ Rules.after self.old (Rules.ring_rule self.old) }
+    pub(crate) fn take_ring(&mut self) -> Result<AtMostTwo<Body<Certificate, Basis>>, RuleCause>
+        ensures { Rules.Follows self.old (Rules.ring_rule self.old) result self.new }
     {
-        if self.view.number() >= 255 {
-            return Err(RuleCause::LastView);
-        }
-        let next = View::new(self.view.number() + 1);
-        Ok(self.enter_view(next))
+        let view = self.view.number();
+        let next = view.checked_add(1).ok_or(RuleCause::LastView)?;
+        Ok(self.enter_view(View::new(next)))
     }
 
     fn movers(&self, sizes: Sizes) -> SeatSet
@@ -442,9 +415,7 @@ impl Controller {
     fn own_draft(&self, movers: SeatSet) -> Option<Draft>
         ensures { result ≡ Rules.own_draft self.now movers self.now.order }
     {
-        let Some(order) = self.order else {
-            return None;
-        };
+        let order = self.order?;
         let certificate = Certificate {
             order,
             enrolled: self.registered,
@@ -469,9 +440,6 @@ impl Controller {
         if self.view.number() != 0 && self.record_count(self.view) < sizes.quorum() as usize {
             return Err(RuleCause::MoversMissing);
         }
-        match self.draft(sizes) {
-            Some(draft) => Ok(draft),
-            None => Err(RuleCause::OutOfTurn),
-        }
+        self.draft(sizes).ok_or(RuleCause::OutOfTurn)
     }
 }

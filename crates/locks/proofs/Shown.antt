@@ -10,7 +10,7 @@ use Rattle.letters.specs.Bodies.{retold}
 use Rattle.reading.specs.declared.parts.Grounds.{Grounds}
 use Rattle.reading.specs.declared.parts.Part.{Part}
 use Rattle.reading.specs.Parts.{span, spans, shown}
-use Rattle.seals.specs.Opening.{sender_of}
+use Rattle.letters.specs.Senders.{sender_of}
 use Rattle.boards.specs.Boards.{Meaning}
 use Rattle.locks.specs.declared.lock.Lock.{Lock}
 use Rattle.locks.specs.Letters.{body_rule, letter_rule}

@@ -1,5 +1,6 @@
 -- What a lock sends is short.
-use Rattle.std.proofs.Common.{◌≡◌, ℕ, Bool, true, false, cond, not, eqb, Some, None, Ok, Err, Option, Result, sym, subst, arith}
+use Rattle.std.proofs.Common.{◌≡◌, ℕ, ◌≤◌, Bool, true, false, cond, not, eqb, List, Ok, Err, Result, arith}
+use Rattle.std.proofs.lemmas.Bool.Decides.{nat_tests}
 use Rattle.terms.specs.declared.numbers.Change.{Change}
 use Rattle.terms.specs.declared.numbers.KeyNumber.{KeyNumber}
 use Rattle.terms.specs.declared.numbers.Place.{Place}
@@ -10,58 +11,70 @@ use Rattle.terms.specs.declared.sizes.Sizes.{Sizes}
 use Rattle.boards.specs.Boards.{Meaning, stages}
 use Rattle.letters.specs.declared.sorts.Answer.{Answer}
 use Rattle.letters.specs.declared.sorts.Answer.TheVariants.{Ready, Refuse}
-use Rattle.letters.specs.declared.certificates.Basis.{Basis}
-use Rattle.letters.specs.declared.certificates.Certificate.{Certificate}
 use Rattle.letters.specs.declared.bodies.Letter.{Letter}
 use Rattle.letters.specs.declared.bodies.Body.{Body}
 use Rattle.letters.specs.declared.bodies.Body.TheVariants as B
 use Rattle.letters.specs.Bytes.{le4, le8}
+use Rattle.posting.specs.declared.few.AtMostTwo.TheVariants.{Nothing, One}
+use Rattle.posting.specs.Calls.{has_room}
+use Rattle.posting.specs.Posting.{needed}
+use Rattle.posting.proofs.Goes.{AllFit}
 use Rattle.locks.specs.declared.lock.Lock.{Lock}
 use Rattle.locks.specs.Letters.{body_rule, letter_rule}
-use Rattle.locks.specs.Rules.{Deed, nothing, Reply, refused, served, sends, passing, summoned, ended_by, may_receipt, may_summon, may_result, resulted}
-use Rattle.locks.specs.Sending.{Small}
+use Rattle.locks.specs.Rules.{nothing, Reply, refused, served, replied, passing, summoned, ended_by, enrol_rule, decline_rule, may_apply, may_decline, may_receipt, may_summon, may_result, resulted}
 
-pub enrol_small : (t : Change) (p : Place) → Small t (Some (B.Enrol p))
+-- at most 64 bytes
+abbrev Short : Change → Reply → Type 0
+Short t (refused c) = Unit {0}
+Short t (served k d bs) = needed t bs ≤ 64
+
+short_fits : (t : Change) (k : Lock) (out scratch : List ℕ) (r : Reply) → has_room out scratch ≡ true → Short t r → AllFit t 0 k out scratch (replied r)
+short_fits t k out scratch (refused c) h s = tt
+short_fits t k out scratch (served k' d bs) h s = grind (arith, nat_tests)
+
+passed : (t : Change) (g : Result (Unit {0}) RuleCause) (r : Reply) → Short t r → Short t (passing g r)
+passed t (Ok x) r s = s
+passed t (Err c) r s = tt
+
+either : (t : Change) (x : Bool) (r q : Reply) → Short t r → Short t q → Short t (cond x r q)
+either t true r q a b = a
+either t false r q a b = b
+
+enrol_short : (t : Change) (p : Place) → needed t (One (B.Enrol p)) ≤ 64
 unfolding le8
-enrol_small t p z = omega arith
+enrol_short t p = omega arith
 
-pub vote_small : (t : Change) (p : Place) (n : KeyNumber) (a : Answer) → Small t (Some (B.Vote p n a))
+vote_short : (t : Change) (p : Place) (n : KeyNumber) (a : Answer) → needed t (One (B.Vote p n a)) ≤ 64
 unfolding le4 le8
-vote_small t p n a z = omega arith
+vote_short t p n a = omega arith
 
--- what a rule sends once its guards are passed
-pub passed : (t : Change) (g : Result (Unit {0}) RuleCause) (k : Lock) (d : Deed) (s b : Option (Body Certificate Basis)) → Small t s → Ok b ≡ sends (passing g (served k d s)) → Small t b
-passed t (Ok x) k d s b h e = let same : b ≡ s = cc in subst (Small t) (sym same) h
-passed t (Err c) k d s b h e = let z : ◌≡◌ {A = ℕ} 0 1 = cc in absurd (omega arith)
+summoned_short : (t : Change) (k : Lock) (x : Bool) (n : KeyNumber) → Short t (summoned k x n)
+summoned_short t k true n = vote_short t k.place n Ready
+summoned_short t k false n = vote_short t k.place n Refuse
 
-stages_small : (t : Change) (g : Result (Unit {0}) RuleCause) (k : Lock) (x : Bool) (n : KeyNumber) (b : Option (Body Certificate Basis)) → Ok b ≡ sends (passing g (summoned k x n)) → Small t b
-stages_small t g k true n b e = passed t g _ _ _ b (vote_small t k.place n Ready) e
-stages_small t g k false n b e = passed t g _ _ _ b (vote_small t k.place n Refuse) e
+ended_short : (t : Change) (k : Lock) (o : Outcome) → Short t (ended_by k o)
+ended_short t k Keep = omega arith
+ended_short t k (Number n) = omega arith
 
-ended_small : (t : Change) (g : Result (Unit {0}) RuleCause) (sizes : Sizes) (x : Bool) (k : Lock) (o : Outcome) (b : Option (Body Certificate Basis)) → Ok b ≡ sends (passing g (cond x (ended_by k o) (served k nothing None))) → Small t b
-ended_small t g sizes true k Keep b e = passed t g _ _ None b tt e
-ended_small t g sizes true k (Number n) b e = passed t g _ _ None b tt e
-ended_small t g sizes false k o b e = passed t g _ _ None b tt e
+body_short : {C D : Type 0} (t : Change) (sizes : Sizes) (k : Lock) (m : Meaning) (l : Body C D) → Short t (body_rule sizes k m l)
+body_short t sizes k m (B.Enrol p) = tt
+body_short t sizes k m (B.Receipt s p) = passed t (may_receipt k s p) _ (omega arith)
+body_short t sizes k m (B.Order n) = tt
+body_short t sizes k m (B.Summons s n z) = passed t (may_summon k) _ (summoned_short t k (stages m k.place n) n)
+body_short t sizes k m (B.Vote p n a) = tt
+body_short t sizes k m (B.Proposal s v x c ms) = tt
+body_short t sizes k m (B.Assent s v x d) = tt
+body_short t sizes k m (B.Confirm s v x d) = tt
+body_short t sizes k m (B.Result s x) = passed t (may_result k m s x) _ (either t _ _ (served (resulted k s x) nothing Nothing) (ended_short t (resulted k s x) x) (omega arith))
+body_short t sizes k m (B.Move s v g) = tt
 
-refused_small : (t : Change) (c : RuleCause) (b : Option (Body Certificate Basis)) → Ok b ≡ sends (refused c) → Small t b
-refused_small t c b e = let z : ◌≡◌ {A = ℕ} 0 1 = cc in absurd (omega arith)
+module _ (t : Change) (k : Lock) (out scratch : List ℕ) (h : has_room out scratch ≡ true) where
+  pub enrol_fits : AllFit t 0 k out scratch (replied (enrol_rule k))
+  enrol_fits = short_fits t k out scratch (enrol_rule k) h (passed t (may_apply k) _ (enrol_short t k.place))
 
-body_small : {C D : Type 0} (t : Change) (sizes : Sizes) (k : Lock) (m : Meaning) (l : Body C D) (b : Option (Body Certificate Basis)) → Ok b ≡ sends (body_rule sizes k m l) → Small t b
-body_small t sizes k m (B.Enrol p) b e = refused_small t _ b e
-body_small t sizes k m (B.Receipt s p) b e = passed t (may_receipt k s p) _ _ None b tt e
-body_small t sizes k m (B.Order n) b e = refused_small t _ b e
-body_small t sizes k m (B.Summons s n z) b e = stages_small t (may_summon k) k (stages m k.place n) n b e
-body_small t sizes k m (B.Vote p n a) b e = refused_small t _ b e
-body_small t sizes k m (B.Proposal s v x c ms) b e = refused_small t _ b e
-body_small t sizes k m (B.Assent s v x d) b e = refused_small t _ b e
-body_small t sizes k m (B.Confirm s v x d) b e = refused_small t _ b e
-body_small t sizes k m (B.Result s x) b e = ended_small t (may_result k m s x) sizes _ (resulted k s x) x b e
-body_small t sizes k m (B.Move s v g) b e = refused_small t _ b e
+  pub decline_fits : AllFit t 0 k out scratch (replied (decline_rule k))
+  decline_fits = short_fits t k out scratch (decline_rule k) h (passed t (may_decline k) _ (omega arith))
 
-chosen_small : (t : Change) (x : Bool) (c : RuleCause) (r : Reply) (b : Option (Body Certificate Basis)) → (Ok b ≡ sends r → Small t b) → Ok b ≡ sends (cond x (refused c) r) → Small t b
-chosen_small t true c r b h e = refused_small t c b e
-chosen_small t false c r b h e = h e
-
--- whatever letter a lock is handed, what it sends is short
-pub letter_small : {C D : Type 0} (t : Change) (sizes : Sizes) (k : Lock) (m : Meaning) (l : Letter C D) (b : Option (Body Certificate Basis)) → Ok b ≡ sends (letter_rule sizes t k m l) → Small t b
-letter_small t sizes k m l b e = chosen_small t (not (eqb l.change.0 t.0)) _ _ b (body_small t sizes k m l.body b) e
+  -- whatever letter a lock is handed
+  pub letter_fits_holds : {C D : Type 0} (sizes : Sizes) (m : Meaning) (l : Letter C D) → AllFit t 0 k out scratch (replied (letter_rule sizes t k m l))
+  letter_fits_holds sizes m l = short_fits t k out scratch (letter_rule sizes t k m l) h (either t (not (eqb l.change.0 t.0)) _ _ tt (body_short t sizes k m l.body))

@@ -1,6 +1,6 @@
 -- The rules of a lock, at its place of a board: guards in order, then what the lock becomes, what the
 -- board shows and what is sent.
-use Rattle.std.specs.Prelude.{ℕ, ◌+◌, Bool, true, false, cond, not, ◌&&◌, ◌||◌, List, is_some, Some, None, Ok, Err, Option, Result, ◌==◌, nat_le, nat_lt, slice_index_or, slice_set}
+use Rattle.std.specs.Prelude.{◌≡◌, ℕ, ◌+◌, Bool, true, false, cond, not, ◌&&◌, ◌||◌, List, is_some, Some, None, Ok, Err, Option, Result, ◌==◌, nat_le, nat_lt, slice_index_or, slice_set}
 use Rattle.terms.specs.declared.numbers.KeyNumber.{KeyNumber}
 use Rattle.terms.specs.declared.numbers.Place.{Place}
 use Rattle.terms.specs.declared.numbers.Seat.{Seat}
@@ -11,14 +11,15 @@ use Rattle.terms.specs.declared.refusals.RuleCause.TheVariants as R
 use Rattle.terms.specs.declared.sizes.Sizes.{Sizes}
 use Rattle.terms.specs.Sizes.{quorum_of}
 use Rattle.letters.specs.declared.sorts.Answer.TheVariants as A
-use Rattle.letters.specs.declared.certificates.Basis.{Basis}
-use Rattle.letters.specs.declared.certificates.Certificate.{Certificate}
-use Rattle.letters.specs.declared.bodies.Body.{Body}
 use Rattle.letters.specs.declared.bodies.Body.TheVariants as B
 use Rattle.ballots.specs.Counts.{count_agree}
 use Rattle.ballots.specs.Kinds.{always_agree, same_outcome}
 use Rattle.ballots.specs.declared.Receipted.{Receipted}
 use Rattle.boards.specs.Boards.{Meaning, staged_at, stages, after_stage, after_take_over, after_drop}
+use Rattle.posting.specs.declared.few.AtMostTwo.TheVariants.{Nothing, One}
+use Rattle.posting.specs.Calls.{has_room}
+use Rattle.posting.specs.Replies as Replies
+use Rattle.posting.specs.Replies.{Bodies, refuse_if}
 use Rattle.locks.specs.declared.lock.Lock.{Lock}
 use Rattle.locks.specs.declared.lock.Standing.{Standing}
 use Rattle.locks.specs.declared.lock.Standing.TheVariants as S
@@ -42,15 +43,23 @@ pub data Deed : Type 0 where
 -- refused, and nothing changes; or served: the lock, what it does at its place, and what it sends
 pub data Reply : Type 0 where
   refused : RuleCause → Reply
-  served : Lock → Deed → Option (Body Certificate Basis) → Reply
+  served : Lock → Deed → Bodies → Reply
 
-abbrev pub sends : Reply → Result (Option (Body Certificate Basis)) RuleCause
-sends (refused c) = Err c
-sends (served k d b) = Ok b
+-- the same reply, but for the board
+abbrev pub replied : Reply → Replies.Reply RuleCause Lock
+replied (refused c) = Replies.refused c
+replied (served k d b) = Replies.served k b
+
+abbrev pub sends : Reply → Result Bodies RuleCause
+sends r = Replies.sends (replied r)
 
 abbrev pub lock_after : Lock → Reply → Lock
-lock_after k (refused c) = k
-lock_after k (served k' d b) = k'
+lock_after k r = Replies.after k (replied r)
+
+-- a rule was followed: what it sends or its refusal is answered, and the lock is what it makes of it
+pub record Follows (k : Lock) (r : Reply) (said : Result Bodies RuleCause) (j : Lock) : Type 0 where
+  pub answer : said ≡ sends r
+  pub lock : j ≡ lock_after k r
 
 abbrev pub deed_done : Meaning → Place → Deed → Meaning
 deed_done m p nothing = m
@@ -61,9 +70,6 @@ deed_done m p drops_there = after_drop m p
 abbrev pub board_after : Meaning → Place → Reply → Meaning
 board_after m p (refused c) = m
 board_after m p (served k d b) = deed_done m p d
-
-abbrev pub refuse_if : Bool → RuleCause → Result (Unit {0}) RuleCause → Result (Unit {0}) RuleCause
-refuse_if t c rest = cond t (Err c) rest
 
 -- the guards, then the rest
 abbrev pub passing : Result (Unit {0}) RuleCause → Reply → Reply
@@ -85,7 +91,7 @@ abbrev pub may_apply : Lock → Result (Unit {0}) RuleCause
 may_apply k = refuse_if (not (rank k.standing == 0)) R.OutOfTurn (Ok tt)
 
 abbrev pub enrol_rule : Lock → Reply
-enrol_rule k = passing (may_apply k) (served (with_standing k S.Applied) nothing (Some (B.Enrol k.place)))
+enrol_rule k = passing (may_apply k) (served (with_standing k S.Applied) nothing (One (B.Enrol k.place)))
 
 -- ---- receipt: 12 another place; 9 new; 10 the seat is recorded, or past applied; recorded, and a quorum makes it enrolled
 
@@ -105,7 +111,7 @@ abbrev pub enrolled_by : Sizes → Lock → Lock
 enrolled_by sizes k = cond (nat_le (quorum_of sizes) (count_agree always_agree receipt k.receipts)) (with_standing k S.Enrolled) k
 
 abbrev pub receipt_rule : Sizes → Lock → Seat → Place → Reply
-receipt_rule sizes k s p = passing (may_receipt k s p) (served (enrolled_by sizes (receipted k s)) nothing None)
+receipt_rule sizes k s p = passing (may_receipt k s p) (served (enrolled_by sizes (receipted k s)) nothing Nothing)
 
 -- ---- decline: 9 not enrolled; kept
 
@@ -113,7 +119,7 @@ abbrev pub may_decline : Lock → Result (Unit {0}) RuleCause
 may_decline k = refuse_if (not (rank k.standing == 2)) R.OutOfTurn (Ok tt)
 
 abbrev pub decline_rule : Lock → Reply
-decline_rule k = passing (may_decline k) (served (with_standing k S.Kept) nothing None)
+decline_rule k = passing (may_decline k) (served (with_standing k S.Kept) nothing Nothing)
 
 -- ---- summons: 9 new or applied; 10 past enrolled; stages the number: ready; if it is not taken, kept; sends its vote
 
@@ -123,8 +129,8 @@ may_summon k =
     (refuse_if (nat_lt 2 (rank k.standing)) R.Repeated (Ok tt))
 
 abbrev pub summoned : Lock → Bool → KeyNumber → Reply
-summoned k true n = served (with_standing k S.Ready) (stages_there n) (Some (B.Vote k.place n A.Ready))
-summoned k false n = served (with_standing k S.Kept) nothing (Some (B.Vote k.place n A.Refuse))
+summoned k true n = served (with_standing k S.Ready) (stages_there n) (One (B.Vote k.place n A.Ready))
+summoned k false n = served (with_standing k S.Kept) nothing (One (B.Vote k.place n A.Refuse))
 
 abbrev pub summons_rule : Lock → Meaning → KeyNumber → Reply
 summons_rule k m n = passing (may_summon k) (summoned k (stages m k.place n) n)
@@ -160,11 +166,16 @@ abbrev pub resulted : Lock → Seat → Outcome → Lock
 resulted k s x = with_results k (slice_set k.results s.0 (Some x))
 
 abbrev pub ended_by : Lock → Outcome → Reply
-ended_by k Keep = served (with_standing k S.Kept) drops_there None
-ended_by k (Number n) = served (with_standing k S.Changed) takes_over_there None
+ended_by k Keep = served (with_standing k S.Kept) drops_there Nothing
+ended_by k (Number n) = served (with_standing k S.Changed) takes_over_there Nothing
 
 abbrev pub counted : Sizes → Lock → Outcome → Reply
-counted sizes k x = cond (nat_le (sizes.faults + 1) (count_agree same_outcome x k.results)) (ended_by k x) (served k nothing None)
+counted sizes k x = cond (nat_le (sizes.faults + 1) (count_agree same_outcome x k.results)) (ended_by k x) (served k nothing Nothing)
 
 abbrev pub result_rule : Sizes → Lock → Meaning → Seat → Outcome → Reply
 result_rule sizes k m s x = passing (may_result k m s x) (counted sizes (resulted k s x) x)
+
+-- ---- the board after a call: as the reply says, if there is room for the call
+
+abbrev pub board_called : Meaning → Place → List ℕ → List ℕ → Reply → Meaning
+board_called m p out scratch r = cond (has_room out scratch) (board_after m p r) m

@@ -1,43 +1,32 @@
 // A letter handed to a lock.
-ghost use Rattle.std.specs.Prelude.{◌≡◌, ℕ, ◌+◌, ◌≤◌, length};
+ghost use Rattle.std.specs.Prelude.{◌≡◌, ◌↔◌, false, Err};
 ghost use Rattle.letters.specs.Bodies.{retold};
 ghost use Rattle.reading.specs.Parts.{span, spans, shown};
 ghost use Rattle.terms.specs.Parties.{party_number};
-ghost use Rattle.seals.specs.Opening.{sender_of};
-ghost use Rattle.locks.specs.Calls as Calls;
+ghost use Rattle.terms.specs.Refusals.{no_room};
+ghost use Rattle.letters.specs.Senders.{sender_of};
+ghost use Rattle.posting.specs.Calls as Calls;
 ghost use Rattle.locks.specs.Letters as Letters;
 ghost use Rattle.locks.specs.Rules as Rules;
 
-use crate::calls::{no_room, ruled};
 use crate::lock::Lock;
-use crate::sending::deliver;
 use boards::board::Board;
 use letters::bodies::{Body, Letter};
 use letters::certificates::{Basis, Certificate};
+use letters::senders::sender_of;
+use posting::few::AtMostTwo;
+use posting::finish::{answer, finish};
+use posting::room::require_room;
 use reading::parts::{Grounds, Part};
 use schemes::scheme::Scheme;
-use seals::clearing::clear;
-use seals::opening::Opened;
 use terms::numbers::Change;
-use terms::parties::Party;
 use terms::refusals::{Refusal, RuleCause};
 use terms::sizes::Sizes;
 
-fn sender_of(body: Body<Part, Grounds>) -> Party
-    ensures { result ≡ sender_of body.entry }
+fn sender_number(body: Body<Part, Grounds>) -> usize
+    ensures { result ≡ party_number (sender_of body.entry) }
 {
-    match body {
-        Body::Enrol { sender } => Party::Lock(sender),
-        Body::Receipt { sender, .. } => Party::Controller(sender),
-        Body::Order { .. } => Party::Office,
-        Body::Summons { sender, .. } => Party::Controller(sender),
-        Body::Vote { sender, .. } => Party::Lock(sender),
-        Body::Proposal { sender, .. } => Party::Controller(sender),
-        Body::Assent { sender, .. } => Party::Controller(sender),
-        Body::Confirm { sender, .. } => Party::Controller(sender),
-        Body::Result { sender, .. } => Party::Controller(sender),
-        Body::Move { sender, .. } => Party::Controller(sender),
-    }
+    sender_of(&body).number() as usize
 }
 
 impl Lock {
@@ -46,9 +35,8 @@ impl Lock {
         sizes: Sizes,
         board: &mut B,
         body: Body<Part, Grounds>,
-    ) -> Result<Option<Body<Certificate, Basis>>, RuleCause>
-        ensures answer { result ≡ Rules.sends (Letters.body_rule sizes self.old (B.Board.meaning board.old) body.entry) }
-        ensures lock { self.new ≡ Rules.lock_after self.old (Letters.body_rule sizes self.old (B.Board.meaning board.old) body.entry) }
+    ) -> Result<AtMostTwo<Body<Certificate, Basis>>, RuleCause>
+        ensures follows { Rules.Follows self.old (Letters.body_rule sizes self.old (B.Board.meaning board.old) body.entry) result self.new }
         ensures board { B.Board.meaning board.new ≡ Rules.board_after (B.Board.meaning board.old) self.old.place (Letters.body_rule sizes self.old (B.Board.meaning board.old) body.entry) }
     {
         match body {
@@ -70,12 +58,11 @@ impl Lock {
         change: Change,
         board: &mut B,
         letter: Letter<Part, Grounds>,
-    ) -> Result<Option<Body<Certificate, Basis>>, RuleCause>
-        ensures answer { result ≡ Rules.sends (Letters.letter_rule sizes change self.old (B.Board.meaning board.old) letter.entry) }
-        ensures lock { self.new ≡ Rules.lock_after self.old (Letters.letter_rule sizes change self.old (B.Board.meaning board.old) letter.entry) }
+    ) -> Result<AtMostTwo<Body<Certificate, Basis>>, RuleCause>
+        ensures follows { Rules.Follows self.old (Letters.letter_rule sizes change self.old (B.Board.meaning board.old) letter.entry) result self.new }
         ensures board { B.Board.meaning board.new ≡ Rules.board_after (B.Board.meaning board.old) self.old.place (Letters.letter_rule sizes change self.old (B.Board.meaning board.old) letter.entry) }
     {
-        if letter.change.number() != change.number() {
+        if letter.change != change {
             return Err(RuleCause::OtherChange);
         }
         self.take_body(sizes, board, letter.body)
@@ -91,23 +78,14 @@ impl Lock {
         letter: Letter<Part, Grounds>,
         scratch: &mut [u8],
         out: &mut [u8],
-    ) -> Result<Option<usize>, Refusal>
-        ensures call { Calls.Goes (S.Scheme.holds scheme.now) change (party_number (sender_of letter.entry.body)) self.old out.old scratch.old (Letters.letter_rule sizes change self.old (B.Board.meaning board.old) letter.entry) (Calls.went result self.new out.new scratch.new) }
-        ensures board { B.Board.meaning board.new ≡ Calls.board_called (B.Board.meaning board.old) self.old.place out.old scratch.old (Letters.letter_rule sizes change self.old (B.Board.meaning board.old) letter.entry) }
+    ) -> Result<AtMostTwo<usize>, Refusal>
+        ensures call { Calls.Goes (S.Scheme.holds scheme.now) change self.old out.old scratch.old (λ _. Calls.pointed (party_number (sender_of letter.entry.body)) (Rules.replied (Letters.letter_rule sizes change self.old (B.Board.meaning board.old) letter.entry))) (Calls.went result self.new out.new scratch.new) }
+        ensures board { B.Board.meaning board.new ≡ Rules.board_called (B.Board.meaning board.old) self.old.place out.old scratch.old (Letters.letter_rule sizes change self.old (B.Board.meaning board.old) letter.entry) }
+        ensures room_suffices { (result ≡ Err no_room) ↔ (Calls.has_room out.old scratch.old ≡ false) }
     {
-        if out.len() < 256 {
-            return Err(no_room());
-        }
-        if scratch.len() < 24 {
-            return Err(no_room());
-        }
-        let sender = sender_of(letter.body).number() as usize;
-        match self.take_letter(sizes, change, board, letter) {
-            Ok(body) => Ok(deliver(scheme, change, body, scratch, out)),
-            Err(cause) => {
-                clear(scratch);
-                Err(ruled(cause, sender))
-            }
-        }
+        require_room(out.len(), scratch.len())?;
+        let sender = sender_number(letter.body);
+        let reply = self.take_letter(sizes, change, board, letter);
+        answer(finish(scheme, change, reply, sender, scratch, out))
     }
 }

@@ -1,4 +1,4 @@
-// A lock and the office, by their rules.
+// A lock, by its rules.
 #![tactic(auto)]
 
 mod calls;
@@ -6,4 +6,3 @@ mod letters_in;
 pub mod lock;
 mod receiving;
 mod rules;
-mod sending;

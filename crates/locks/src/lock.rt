@@ -4,7 +4,7 @@ use terms::numbers::Place;
 use terms::parties::Outcome;
 
 // How far a lock has come. The last two are ended.
-#[derive(Clone, Copy, PartialEq, Eq)]
+#[derive(Clone, Copy, PartialEq, Eq, PartialOrd, Ord)]
 pub enum Standing {
     New,
     Applied,

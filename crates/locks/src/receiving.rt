@@ -1,14 +1,17 @@
 // What the owner of a lock may do with it.
-ghost use Rattle.std.specs.Prelude.{◌≡◌};
+ghost use Rattle.std.specs.Prelude.{◌≡◌, ◌↔◌, false, Err};
 ghost use Rattle.reading.specs.Parts.{shown};
 ghost use Rattle.terms.specs.Parties.{party_number};
-ghost use Rattle.seals.specs.Opening.{sender_of};
-ghost use Rattle.locks.specs.Calls as Calls;
+ghost use Rattle.terms.specs.Refusals.{no_room};
+ghost use Rattle.letters.specs.Senders.{sender_of};
+ghost use Rattle.posting.specs.Calls as Calls;
+ghost use Rattle.locks.specs.Rules as Rules;
 ghost use Rattle.locks.specs.Letters as Letters;
 ghost use Rattle.locks.specs.Fresh.{fresh_lock};
 
 use crate::lock::{Lock, Standing};
 use boards::board::Board;
+use posting::few::AtMostTwo;
 use schemes::scheme::Scheme;
 use seals::opening::Opened;
 use terms::numbers::{Change, Place};
@@ -44,9 +47,10 @@ impl Lock {
         opened: Opened,
         scratch: &mut [u8],
         out: &mut [u8],
-    ) -> Result<Option<usize>, Refusal>
-        ensures call { Calls.Goes (S.Scheme.holds scheme.now) change (party_number (sender_of (shown opened.entry.letter).body)) self.old out.old scratch.old (Letters.letter_rule sizes change self.old (B.Board.meaning board.old) (shown opened.entry.letter)) (Calls.went result self.new out.new scratch.new) }
-        ensures board { B.Board.meaning board.new ≡ Calls.board_called (B.Board.meaning board.old) self.old.place out.old scratch.old (Letters.letter_rule sizes change self.old (B.Board.meaning board.old) (shown opened.entry.letter)) }
+    ) -> Result<AtMostTwo<usize>, Refusal>
+        ensures call { Calls.Goes (S.Scheme.holds scheme.now) change self.old out.old scratch.old (λ _. Calls.pointed (party_number (sender_of (shown opened.entry.letter).body)) (Rules.replied (Letters.letter_rule sizes change self.old (B.Board.meaning board.old) (shown opened.entry.letter)))) (Calls.went result self.new out.new scratch.new) }
+        ensures board { B.Board.meaning board.new ≡ Rules.board_called (B.Board.meaning board.old) self.old.place out.old scratch.old (Letters.letter_rule sizes change self.old (B.Board.meaning board.old) (shown opened.entry.letter)) }
+        ensures room_suffices { (result ≡ Err no_room) ↔ (Calls.has_room out.old scratch.old ≡ false) }
     {
         let letter = opened.spend();
         self.serve(sizes, change, scheme, board, letter, scratch, out)

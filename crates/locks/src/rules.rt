@@ -8,56 +8,41 @@ use boards::board::Board;
 use letters::bodies::Body;
 use letters::certificates::{Basis, Certificate};
 use letters::sorts::Answer;
+use posting::few::AtMostTwo;
 use terms::numbers::{KeyNumber, Place, Seat};
 use terms::parties::Outcome;
 use terms::refusals::RuleCause;
 use terms::sizes::Sizes;
 
-impl Standing {
-    fn rank(self) -> u8
-        ensures { result ≡ Rules.rank self }
-    {
-        match self {
-            Standing::New => 0,
-            Standing::Applied => 1,
-            Standing::Enrolled => 2,
-            Standing::Ready => 3,
-            Standing::Changed => 4,
-            Standing::Kept => 5,
-        }
-    }
-}
-
 impl Lock {
     fn may_apply(&self) -> Result<(), RuleCause>
         ensures { result ≡ Rules.may_apply self.now }
     {
-        if self.standing.rank() != 0 {
+        if self.standing != Standing::New {
             return Err(RuleCause::OutOfTurn);
         }
         Ok(())
     }
 
     // The lock enrols: it applies.
-    pub(crate) fn apply(&mut self) -> Result<Option<Body<Certificate, Basis>>, RuleCause>
-        ensures answer { result ≡ Rules.sends (Rules.enrol_rule self.old) }
-        ensures lock { self.new ≡ Rules.lock_after self.old (Rules.enrol_rule self.old) }
+    pub(crate) fn apply(&mut self) -> Result<AtMostTwo<Body<Certificate, Basis>>, RuleCause>
+        ensures { Rules.Follows self.old (Rules.enrol_rule self.old) result self.new }
     {
         self.may_apply()?;
         self.standing = Standing::Applied;
-        Ok(Some(Body::Enrol { sender: self.place }))
+        Ok(AtMostTwo::One(Body::Enrol { sender: self.place }))
     }
 
     fn may_receipt(&self, seat: Seat, place: Place) -> Result<(), RuleCause>
         ensures { result ≡ Rules.may_receipt self.now seat place }
     {
-        if place.number() != self.place.number() {
+        if place != self.place {
             return Err(RuleCause::Differs);
         }
-        if self.standing.rank() == 0 {
+        if self.standing == Standing::New {
             return Err(RuleCause::OutOfTurn);
         }
-        if entry(&self.receipts, seat.number()).is_some() || self.standing.rank() > 1 {
+        if entry(&self.receipts, seat.number()).is_some() || self.standing > Standing::Applied {
             return Err(RuleCause::Repeated);
         }
         Ok(())
@@ -69,44 +54,42 @@ impl Lock {
         sizes: Sizes,
         seat: Seat,
         place: Place,
-    ) -> Result<Option<Body<Certificate, Basis>>, RuleCause>
-        ensures answer { result ≡ Rules.sends (Rules.receipt_rule sizes self.old seat place) }
-        ensures lock { self.new ≡ Rules.lock_after self.old (Rules.receipt_rule sizes self.old seat place) }
+    ) -> Result<AtMostTwo<Body<Certificate, Basis>>, RuleCause>
+        ensures { Rules.Follows self.old (Rules.receipt_rule sizes self.old seat place) result self.new }
     {
         self.may_receipt(seat, place)?;
         put(&mut self.receipts, seat.number(), Some(Receipted));
         if tally(&self.receipts, &Receipted) >= sizes.quorum() as usize {
             self.standing = Standing::Enrolled;
         }
-        Ok(None)
+        Ok(AtMostTwo::Nothing)
     }
 
     fn may_decline(&self) -> Result<(), RuleCause>
         ensures { result ≡ Rules.may_decline self.now }
     {
-        if self.standing.rank() != 2 {
+        if self.standing != Standing::Enrolled {
             return Err(RuleCause::OutOfTurn);
         }
         Ok(())
     }
 
     // The lock will not take part: it keeps its number.
-    pub(crate) fn take_decline(&mut self) -> Result<Option<Body<Certificate, Basis>>, RuleCause>
-        ensures answer { result ≡ Rules.sends (Rules.decline_rule self.old) }
-        ensures lock { self.new ≡ Rules.lock_after self.old (Rules.decline_rule self.old) }
+    pub(crate) fn take_decline(&mut self) -> Result<AtMostTwo<Body<Certificate, Basis>>, RuleCause>
+        ensures { Rules.Follows self.old (Rules.decline_rule self.old) result self.new }
     {
         self.may_decline()?;
         self.standing = Standing::Kept;
-        Ok(None)
+        Ok(AtMostTwo::Nothing)
     }
 
     fn may_summon(&self) -> Result<(), RuleCause>
         ensures { result ≡ Rules.may_summon self.now }
     {
-        if self.standing.rank() < 2 {
+        if self.standing < Standing::Enrolled {
             return Err(RuleCause::OutOfTurn);
         }
-        if self.standing.rank() > 2 {
+        if self.standing > Standing::Enrolled {
             return Err(RuleCause::Repeated);
         }
         Ok(())
@@ -117,23 +100,22 @@ impl Lock {
         &mut self,
         board: &mut B,
         number: KeyNumber,
-    ) -> Result<Option<Body<Certificate, Basis>>, RuleCause>
-        ensures answer { result ≡ Rules.sends (Rules.summons_rule self.old (B.Board.meaning board.old) number) }
-        ensures lock { self.new ≡ Rules.lock_after self.old (Rules.summons_rule self.old (B.Board.meaning board.old) number) }
+    ) -> Result<AtMostTwo<Body<Certificate, Basis>>, RuleCause>
+        ensures follows { Rules.Follows self.old (Rules.summons_rule self.old (B.Board.meaning board.old) number) result self.new }
         ensures board { B.Board.meaning board.new ≡ Rules.board_after (B.Board.meaning board.old) self.old.place (Rules.summons_rule self.old (B.Board.meaning board.old) number) }
     {
         self.may_summon()?;
         let sender = self.place;
         if board.stage(sender, number) {
             self.standing = Standing::Ready;
-            return Ok(Some(Body::Vote {
+            return Ok(AtMostTwo::One(Body::Vote {
                 sender,
                 number,
                 answer: Answer::Ready,
             }));
         }
         self.standing = Standing::Kept;
-        Ok(Some(Body::Vote {
+        Ok(AtMostTwo::One(Body::Vote {
             sender,
             number,
             answer: Answer::Refuse,
@@ -148,13 +130,13 @@ impl Lock {
     ) -> Result<(), RuleCause>
         ensures { result ≡ Rules.may_result_with self.now staged seat outcome }
     {
-        if self.standing.rank() < 2 {
+        if self.standing < Standing::Enrolled {
             return Err(RuleCause::OutOfTurn);
         }
-        if self.standing.rank() > 3 {
+        if self.standing > Standing::Ready {
             return Err(RuleCause::Repeated);
         }
-        if is_number(outcome) && self.standing.rank() == 2 {
+        if outcome != Outcome::Keep && self.standing == Standing::Enrolled {
             return Err(RuleCause::OutOfTurn);
         }
         if strange(staged, outcome) {
@@ -190,27 +172,17 @@ impl Lock {
         board: &mut B,
         seat: Seat,
         outcome: Outcome,
-    ) -> Result<Option<Body<Certificate, Basis>>, RuleCause>
-        ensures answer { result ≡ Rules.sends (Rules.result_rule sizes self.old (B.Board.meaning board.old) seat outcome) }
-        ensures lock { self.new ≡ Rules.lock_after self.old (Rules.result_rule sizes self.old (B.Board.meaning board.old) seat outcome) }
+    ) -> Result<AtMostTwo<Body<Certificate, Basis>>, RuleCause>
+        ensures follows { Rules.Follows self.old (Rules.result_rule sizes self.old (B.Board.meaning board.old) seat outcome) result self.new }
         ensures board { B.Board.meaning board.new ≡ Rules.board_after (B.Board.meaning board.old) self.old.place (Rules.result_rule sizes self.old (B.Board.meaning board.old) seat outcome) }
     {
         self.may_result(board.staged(self.place), seat, outcome)?;
         put(&mut self.results, seat.number(), Some(outcome));
         if tally(&self.results, &outcome) < sizes.faults() as usize + 1 {
-            return Ok(None);
+            return Ok(AtMostTwo::Nothing);
         }
         self.end(board, outcome);
-        Ok(None)
-    }
-}
-
-fn is_number(outcome: Outcome) -> bool
-    ensures { result ≡ Rules.is_number outcome }
-{
-    match outcome {
-        Outcome::Keep => false,
-        Outcome::Number(_) => true,
+        Ok(AtMostTwo::Nothing)
     }
 }
 
@@ -218,9 +190,8 @@ fn is_number(outcome: Outcome) -> bool
 fn strange(staged: Option<KeyNumber>, outcome: Outcome) -> bool
     ensures { result ≡ Rules.strange staged outcome }
 {
-    match (staged, outcome) {
-        (_, Outcome::Keep) => false,
-        (None, Outcome::Number(_)) => true,
-        (Some(m), Outcome::Number(n)) => m.value() != n.value(),
+    match outcome {
+        Outcome::Keep => false,
+        Outcome::Number(number) => staged != Some(number),
     }
 }

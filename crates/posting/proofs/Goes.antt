@@ -1,10 +1,10 @@
 -- A call that ended by what its rule replied goes by that rule.
-use Rattle.std.proofs.Common.{◌≡◌, ℕ, ◌≤◌, Bool, true, false, cond, ◌&&◌, List, length, is_ok as isOk, Ok, Err, Result, sym, refl, ap, ◌∙◌, arith}
+use Rattle.std.proofs.Common.{◌≡◌, ◌↔◌, ℕ, ◌≤◌, Bool, true, false, cond, ◌&&◌, List, length, is_ok as isOk, Ok, Err, Result, sym, refl, ap, ◌∙◌, arith}
 use Rattle.std.proofs.lemmas.Bool.Decides.{nat_tests}
 use Rattle.terms.specs.declared.numbers.Change.{Change}
 use Rattle.terms.specs.declared.refusals.Refusal.{Refusal}
 use Rattle.terms.specs.declared.refusals.RuleCause.{RuleCause}
-use Rattle.terms.specs.Refusals.{no_room}
+use Rattle.terms.specs.Refusals.{layer_number, layer_of, no_room}
 use Rattle.letters.specs.declared.sorts.Seal.{Seal}
 use Rattle.letters.specs.Bytes.{written}
 use Rattle.seals.specs.Opening.{Relation}
@@ -36,6 +36,11 @@ scratch_room out scratch h = grind (arith, nat_tests)
 
 roomy_long : (scratch : List ℕ) → roomy scratch ≡ true → 24 ≤ length scratch
 roomy_long scratch h = grind (arith, nat_tests)
+
+-- 3 for a refusal by the rules, 4 for want of room
+abbrev layer : Result (AtMostTwo ℕ) Refusal → ℕ
+layer (Ok l) = 0
+layer (Err e) = layer_number (layer_of e.cause)
 
 module _ {U : Type 0} (t : Change) (sender : ℕ) (u : U) (out scratch : List ℕ) where
   -- by whether the letters fit
@@ -125,6 +130,24 @@ module _ {U : Type 0} (t : Change) (sender : ℕ) (u : U) (out scratch : List �
       goes-copied holds (λ z. r) reply a ans v out' scratch' h p
       (n ∙ sym (in_place (seals_in a) r a (scratch_room out scratch h) f (ap (λ (x : Ending). x.answer) e ∙ ap (λ x. (ended t sender x (seals_in a) out scratch).answer) p)))
       e x s k
+
+  -- and is refused for want of room only before it began
+  module _ (holds : Relation) (r : Reply RuleCause U) (w : Went U) (f : has_room out scratch ≡ true → AllFit r) (g : Goes holds t u out scratch (λ z. pointed sender r) w) where
+    not_for_room : (q : Reply RuleCause U) → AllFit q → (finished t u out scratch g.seals (pointed sender q)).answer ≡ Err no_room → ⊥
+    not_for_room (refused c) i e = let z : ◌≡◌ {A = ℕ} 3 4 = ap layer e in absurd (omega arith)
+    not_for_room (served v bs) i e =
+        let z : ◌≡◌ {A = ℕ} 0 4 = sym (ap (λ b. layer (cond b (went (Ok (lengths_of t bs g.seals)) v (written (bytes_of t bs g.seals) out) (cleared scratch)) (went (Err no_room) u out (cleared scratch))).answer) i) ∙ ap layer e in
+        absurd (omega arith)
+
+    answer_by : (b : Bool) → has_room out scratch ≡ b → w.answer ≡ (cond b (finished t u out scratch g.seals (pointed sender r)) (went (Err no_room) u out scratch)).answer
+    answer_by b e = ap (λ (x : Went U). x.answer) g.goes ∙ ap (λ y. (cond y (finished t u out scratch g.seals (pointed sender r)) (went (Err no_room) u out scratch)).answer) e
+
+    by_room : (b : Bool) → has_room out scratch ≡ b → (w.answer ≡ Err no_room) ↔ (b ≡ false)
+    by_room true e = (λ x. absurd (not_for_room r (f e) (sym (answer_by true e) ∙ x)), λ x. absurd (false_true (sym x)))
+    by_room false e = (λ x. refl, λ x. answer_by false e)
+
+    pub room_suffices : (w.answer ≡ Err no_room) ↔ (has_room out scratch ≡ false)
+    room_suffices = by_room (has_room out scratch) refl
 
 -- ---- the room that a call has asked for
 

@@ -40,8 +40,5 @@ pub fn finish<S: Scheme>(
 pub fn answer(posted: Result<Posted, Refusal>) -> Result<AtMostTwo<usize>, Refusal>
     ensures { result ≡ Calls.answered posted }
 {
-    match posted {
-        Ok(posted) => Ok(posted.lengths),
-        Err(refusal) => Err(refusal),
-    }
+    posted.map(|posted| posted.lengths)
 }

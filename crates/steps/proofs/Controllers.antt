@@ -10,9 +10,9 @@ use Rattle.letters.specs.declared.certificates.Certificate.{Certificate}
 use Rattle.letters.specs.declared.bodies.Body.{Body}
 use Rattle.letters.specs.declared.bodies.Body.TheVariants as B
 use Rattle.posting.specs.Replies.{after}
-use Rattle.controllerunits.specs.declared.controller.Controller.{Controller}
-use Rattle.controllerunits.specs.Letters.{body_rule}
-use Rattle.controllerunits.specs.Rules.{Reply, confirming, pair, assent_rule, confirm_rule, move_rule}
+use Rattle.controllers.specs.declared.controller.Controller.{Controller}
+use Rattle.controllers.specs.Letters.{body_rule}
+use Rattle.controllers.specs.Rules.{Reply, confirming, pair, assent_rule, confirm_rule, move_rule}
 use Rattle.steps.specs.Steps.{ControllerStep, to_controller, rings, proposes, controller_reply, controller_next}
 use Rattle.steps.proofs.Voices.{Bases, assent_bases}
 use Rattle.steps.specs.Laws.{SeatStays, ViewNeverFalls, ResultStays, OrderStays, RegisteredPlacesStay, RegisteredPlacesNeverGrow, BasisNeverFalls, ProposalStaysInItsView}

@@ -26,11 +26,11 @@ use Rattle.letters.specs.Sorts.{stands}
 use Rattle.letters.specs.Statements.{outcome_number}
 use Rattle.ballots.specs.declared.Pair.{Pair}
 use Rattle.ballots.specs.Kinds.{same_outcome}
-use Rattle.controllerunits.specs.declared.controller.Controller.{Controller}
-use Rattle.controllerunits.specs.declared.controller.MoveRecord.{MoveRecord}
-use Rattle.controllerunits.specs.declared.controller.Proposal.{Proposal}
-use Rattle.controllerunits.specs.declared.controller.Round.{Round}
-use Rattle.controllerunits.specs.Rules.{ordered_number, or_else, pair_of, with_proposal, assented, confirmed, empty_round, basis_from}
+use Rattle.controllers.specs.declared.controller.Controller.{Controller}
+use Rattle.controllers.specs.declared.controller.MoveRecord.{MoveRecord}
+use Rattle.controllers.specs.declared.controller.Proposal.{Proposal}
+use Rattle.controllers.specs.declared.controller.Round.{Round}
+use Rattle.controllers.specs.Rules.{ordered_number, or_else, pair_of, with_proposal, assented, confirmed, empty_round, basis_from}
 use Rattle.roundtrip.proofs.Certificates.{fits_parts, parts_fit}
 use Rattle.roundtrip.proofs.Bases.{grounded, ground_fits}
 use Rattle.steps.specs.Ranges.{order_fits, PapersFit, ProposalFits, RoundFits, OwnBasisFits, RecordFits, RecordsFit}

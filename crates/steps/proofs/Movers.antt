@@ -7,10 +7,10 @@ use Rattle.std.proofs.lemmas.Bool.{ltb-true, ltb-false}
 use Rattle.terms.specs.declared.numbers.View.{View}
 use Rattle.letters.specs.declared.certificates.Basis.{Basis}
 use Rattle.ballots.specs.Counts.{votes_for, count_agree}
-use Rattle.controllerunits.specs.declared.controller.MoveRecord.{MoveRecord}
-use Rattle.controllerunits.specs.declared.controller.Picked.{Picked}
-use Rattle.controllerunits.specs.Choice.{same_view, stands_in, names, basis_of, offer, better, best, add_seat, picked}
-use Rattle.controllerunits.specs.Rules.{move_record}
+use Rattle.controllers.specs.declared.controller.MoveRecord.{MoveRecord}
+use Rattle.controllers.specs.declared.controller.Picked.{Picked}
+use Rattle.controllers.specs.Choice.{same_view, stands_in, names, basis_of, offer, better, best, add_seat, picked}
+use Rattle.controllers.specs.Rules.{move_record}
 use Rattle.steps.proofs.Replies.{none_some}
 use Rattle.steps.proofs.Rows.{ones_none}
 

@@ -6,8 +6,8 @@ use Rattle.terms.specs.declared.numbers.Change.{Change}
 use Rattle.terms.specs.declared.numbers.View.{View}
 use Rattle.terms.specs.declared.sizes.Sizes.{Sizes}
 use Rattle.letters.specs.declared.sorts.Seal.{Seal}
-use Rattle.controllerunits.specs.declared.controller.Controller.{Controller}
-use Rattle.controllerunits.specs.declared.controller.Proposal.{Proposal}
+use Rattle.controllers.specs.declared.controller.Controller.{Controller}
+use Rattle.controllers.specs.declared.controller.Proposal.{Proposal}
 use Rattle.steps.specs.Steps.{ControllerStep, controller_next, controller_sends}
 use Rattle.steps.specs.Laws.{Voice, SpokenOnce}
 use Rattle.steps.specs.Voices.{voices_in, voices_of, AtMostOneVoiceAView}

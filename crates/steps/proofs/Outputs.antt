@@ -16,7 +16,7 @@ use Rattle.posting.specs.declared.few.Seals.{Seals}
 use Rattle.posting.specs.Calls.{has_room, pointed, Went, finished, called}
 use Rattle.posting.specs.Posting.{letters_of, bytes_of, lengths_of, are_words, needed, fits}
 use Rattle.posting.specs.Replies.{Bodies, Reply, refused, served, after}
-use Rattle.lockunits.specs.Rules.{replied}
+use Rattle.locks.specs.Rules.{replied}
 use Rattle.office.specs.Rules.{order_reply}
 use Rattle.steps.specs.Steps.{sent_in, controller_reply, lock_reply}
 use Rattle.steps.specs.RangeLaws.{ReadBack}

@@ -10,7 +10,7 @@ use Rattle.ballots.specs.declared.Pair.{Pair}
 use Rattle.ballots.specs.Kinds.{same_outcome, same_pair}
 use Rattle.posting.specs.declared.few.AtMostTwo.TheVariants.{Nothing}
 use Rattle.posting.specs.Replies.{Bodies, Reply, refused, served, after, given, passing}
-use Rattle.controllerunits.specs.Rules.{pair}
+use Rattle.controllers.specs.Rules.{pair}
 use Rattle.steps.specs.Steps.{sent_in}
 
 -- what is left and sent, if a reply serves, has a property

@@ -35,12 +35,12 @@ use Rattle.posting.specs.declared.few.AtMostTwo.TheVariants.{Nothing, One, Two}
 use Rattle.posting.specs.Posting.{needed}
 use Rattle.posting.specs.Replies as Replies
 use Rattle.posting.specs.Replies.{Bodies}
-use Rattle.controllerunits.specs.declared.controller.Controller.{Controller}
-use Rattle.controllerunits.specs.declared.controller.Draft.{Draft}
-use Rattle.controllerunits.specs.declared.controller.MoveRecord.{MoveRecord}
-use Rattle.controllerunits.specs.declared.controller.Proposal.{Proposal}
-use Rattle.controllerunits.specs.Choice.{names, best, picked}
-use Rattle.controllerunits.specs.Rules.{Reply, with_order, with_round, with_records, with_result, may_enrol, enrol_rule, same_number, may_order, order, order_rule, ordered_number, may_vote, vote_rule, choice, pair_of, or_else, hold, assented, confirmed, leads, may_hold, proposal, held, proposal_rule, concludes, may_assent, confirmed_own, confirm_body, result_body, confirming, assent_counted, assent_rule, may_confirm, confirm_counted, confirm_rule, move_record, enter_view, names_from, false_basis, may_move, record_count, move_rule, may_ring, ring_rule, movers, own_draft, draft_from, draft_of, drafted, may_propose, proposing, propose_rule}
+use Rattle.controllers.specs.declared.controller.Controller.{Controller}
+use Rattle.controllers.specs.declared.controller.Draft.{Draft}
+use Rattle.controllers.specs.declared.controller.MoveRecord.{MoveRecord}
+use Rattle.controllers.specs.declared.controller.Proposal.{Proposal}
+use Rattle.controllers.specs.Choice.{names, best, picked}
+use Rattle.controllers.specs.Rules.{Reply, with_order, with_round, with_records, with_result, may_enrol, enrol_rule, same_number, may_order, order, order_rule, ordered_number, may_vote, vote_rule, choice, pair_of, or_else, hold, assented, confirmed, leads, may_hold, proposal, held, proposal_rule, concludes, may_assent, confirmed_own, confirm_body, result_body, confirming, assent_counted, assent_rule, may_confirm, confirm_counted, confirm_rule, move_record, enter_view, names_from, false_basis, may_move, record_count, move_rule, may_ring, ring_rule, movers, own_draft, draft_from, draft_of, drafted, may_propose, proposing, propose_rule}
 use Rattle.roundtrip.proofs.Bases.{grounded}
 use Rattle.roundtrip.proofs.Certificates.{parts_fit}
 use Rattle.steps.specs.Ranges.{order_fits, PapersFit, ProposalFits, RoundFits, RecordsFit, ControllerFits}

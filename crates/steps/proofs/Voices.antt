@@ -27,11 +27,11 @@ use Rattle.ballots.specs.Counts.{count_agree}
 use Rattle.ballots.specs.Kinds.{same_pair}
 use Rattle.posting.specs.declared.few.AtMostTwo.TheVariants.{Nothing, One, Two}
 use Rattle.posting.specs.Replies.{Bodies, after}
-use Rattle.controllerunits.specs.declared.controller.Controller.{Controller}
-use Rattle.controllerunits.specs.declared.controller.Draft.{Draft}
-use Rattle.controllerunits.specs.declared.controller.Proposal.{Proposal}
-use Rattle.controllerunits.specs.Letters.{body_rule}
-use Rattle.controllerunits.specs.Rules.{Reply, may_enrol, enrol_rule, may_order, order, order_rule, may_vote, vote_rule, pair, pair_of, proposal, leads, may_hold, held, proposal_rule, confirmed_here, concludes, may_assent, with_round, assented, basis_from, confirmed_own, confirming, assent_counted, assent_rule, confirmed, may_confirm, confirm_rule, enter_view, entered, may_move, record_count, move_record, with_records, move_rule, may_ring, ring_rule, may_propose, proposing, propose_rule}
+use Rattle.controllers.specs.declared.controller.Controller.{Controller}
+use Rattle.controllers.specs.declared.controller.Draft.{Draft}
+use Rattle.controllers.specs.declared.controller.Proposal.{Proposal}
+use Rattle.controllers.specs.Letters.{body_rule}
+use Rattle.controllers.specs.Rules.{Reply, may_enrol, enrol_rule, may_order, order, order_rule, may_vote, vote_rule, pair, pair_of, proposal, leads, may_hold, held, proposal_rule, confirmed_here, concludes, may_assent, with_round, assented, basis_from, confirmed_own, confirming, assent_counted, assent_rule, confirmed, may_confirm, confirm_rule, enter_view, entered, may_move, record_count, move_record, with_records, move_rule, may_ring, ring_rule, may_propose, proposing, propose_rule}
 use Rattle.steps.specs.Steps.{Sends, ControllerStep, to_controller, rings, proposes, controller_reply, controller_next, controller_sends}
 use Rattle.steps.specs.Laws.{Voice, voice, voice_of, BasisFrom, SpokenOnce, ConfirmedNow, ResultTaken, MovedOn, ReceiptGiven, OneVoiceAView, ConfirmOnlyInThePresentView, ResultSentWhenTaken, MoveOnlyToALaterView, ReceiptOnlyBeforeAnOrder}
 use Rattle.steps.specs.Voices.{listed, voices_in}

@@ -31,12 +31,12 @@ use Rattle.posting.specs.Calls.{pointed}
 use Rattle.posting.specs.Posting.{needed}
 use Rattle.posting.specs.Replies as Replies
 use Rattle.posting.specs.Replies.{Bodies}
-use Rattle.controllerunits.specs.declared.controller.Controller.{Controller}
-use Rattle.controllerunits.specs.Letters.{body_rule}
-use Rattle.controllerunits.specs.Rules.{pair}
-use Rattle.lockunits.specs.declared.lock.Lock.{Lock}
-use Rattle.lockunits.specs.Letters as LockLetters
-use Rattle.lockunits.specs.Rules as L
+use Rattle.controllers.specs.declared.controller.Controller.{Controller}
+use Rattle.controllers.specs.Letters.{body_rule}
+use Rattle.controllers.specs.Rules.{pair}
+use Rattle.locks.specs.declared.lock.Lock.{Lock}
+use Rattle.locks.specs.Letters as LockLetters
+use Rattle.locks.specs.Rules as L
 use Rattle.office.specs.declared.Office.{Office}
 use Rattle.office.specs.Rules.{order_rule}
 use Rattle.roundtrip.proofs.Bases.{grounded}

@@ -17,10 +17,10 @@ use Rattle.letters.specs.Certificates.{certificate_digest}
 use Rattle.boards.specs.Boards.{Meaning, door_at, in_force}
 use Rattle.posting.specs.declared.few.AtMostTwo.TheVariants.{Nothing}
 use Rattle.posting.specs.Replies.{Bodies}
-use Rattle.controllerunits.specs.declared.controller.Controller.{Controller}
-use Rattle.controllerunits.specs.declared.controller.Proposal.{Proposal}
-use Rattle.lockunits.specs.declared.lock.Lock.{Lock}
-use Rattle.lockunits.specs.Rules.{rank}
+use Rattle.controllers.specs.declared.controller.Controller.{Controller}
+use Rattle.controllers.specs.declared.controller.Proposal.{Proposal}
+use Rattle.locks.specs.declared.lock.Lock.{Lock}
+use Rattle.locks.specs.Rules.{rank}
 use Rattle.office.specs.declared.Office.{Office}
 use Rattle.steps.specs.Steps.{Sends, ControllerStep, controller_next, controller_sends, LockStep, lock_next, board_next, office_next, office_sends}
 

@@ -18,9 +18,9 @@ use Rattle.posting.specs.declared.few.Seals.{Seals}
 use Rattle.posting.specs.Calls.{has_room, pointed, called}
 use Rattle.posting.specs.Posting.{letters_of, are_words, needed}
 use Rattle.posting.specs.Replies.{Reply, after}
-use Rattle.controllerunits.specs.declared.controller.Controller.{Controller}
-use Rattle.lockunits.specs.declared.lock.Lock.{Lock}
-use Rattle.lockunits.specs.Rules.{replied}
+use Rattle.controllers.specs.declared.controller.Controller.{Controller}
+use Rattle.locks.specs.declared.lock.Lock.{Lock}
+use Rattle.locks.specs.Rules.{replied}
 use Rattle.office.specs.declared.Office.{Office}
 use Rattle.office.specs.Rules.{order_reply}
 use Rattle.steps.specs.Steps.{sent_in, ControllerStep, controller_reply, controller_sends, LockStep, lock_reply, lock_sends, office_sends}

@@ -16,10 +16,10 @@ use Rattle.reading.specs.Form.{read}
 use Rattle.roundtrip.specs.Laws.{kept_result}
 use Rattle.boards.specs.Boards.{Meaning}
 use Rattle.posting.specs.Replies.{Bodies}
-use Rattle.controllerunits.specs.declared.controller.Controller.{Controller}
-use Rattle.controllerunits.specs.Letters.{fresh_controller}
-use Rattle.lockunits.specs.declared.lock.Lock.{Lock}
-use Rattle.lockunits.specs.Fresh.{fresh_lock}
+use Rattle.controllers.specs.declared.controller.Controller.{Controller}
+use Rattle.controllers.specs.Letters.{fresh_controller}
+use Rattle.locks.specs.declared.lock.Lock.{Lock}
+use Rattle.locks.specs.Fresh.{fresh_lock}
 use Rattle.office.specs.declared.Office.{Office}
 use Rattle.steps.specs.Steps.{Sends, ControllerStep, controller_next, controller_sends, LockStep, lock_next, lock_sends, office_sends}
 use Rattle.steps.specs.Ranges.{ControllerFits, LockFits, controller_step_fits, lock_step_fits}

@@ -17,12 +17,12 @@ use Rattle.letters.specs.Ranges.{is_byte, is_word, number_fits, seat_fits, place
 use Rattle.letters.specs.Sorts.{stands}
 use Rattle.letters.specs.Statements.{outcome_number}
 use Rattle.ballots.specs.declared.Pair.{Pair}
-use Rattle.controllerunits.specs.declared.controller.Controller.{Controller}
-use Rattle.controllerunits.specs.declared.controller.MoveRecord.{MoveRecord}
-use Rattle.controllerunits.specs.declared.controller.Proposal.{Proposal}
-use Rattle.controllerunits.specs.declared.controller.Round.{Round}
-use Rattle.controllerunits.specs.Rules.{ordered_number, pair_of, false_basis}
-use Rattle.lockunits.specs.declared.lock.Lock.{Lock}
+use Rattle.controllers.specs.declared.controller.Controller.{Controller}
+use Rattle.controllers.specs.declared.controller.MoveRecord.{MoveRecord}
+use Rattle.controllers.specs.declared.controller.Proposal.{Proposal}
+use Rattle.controllers.specs.declared.controller.Round.{Round}
+use Rattle.controllers.specs.Rules.{ordered_number, pair_of, false_basis}
+use Rattle.locks.specs.declared.lock.Lock.{Lock}
 use Rattle.steps.specs.Steps.{ControllerStep, to_controller, rings, proposes, LockStep, to_lock, enrols, declines}
 
 -- an order's number is a key number, and its seal a word

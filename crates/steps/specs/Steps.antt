@@ -11,14 +11,14 @@ use Rattle.boards.specs.Boards.{Meaning}
 use Rattle.posting.specs.declared.few.AtMostTwo.TheVariants.{Nothing, One, Two}
 use Rattle.posting.specs.Replies as Replies
 use Rattle.posting.specs.Replies.{Bodies, after}
-use Rattle.controllerunits.specs.declared.controller.Controller.{Controller}
-use Rattle.controllerunits.specs.Letters as Controllers
-use Rattle.controllerunits.specs.Rules as ControllerRules
-use Rattle.controllerunits.specs.Rules.{ring_rule, propose_rule}
-use Rattle.lockunits.specs.declared.lock.Lock.{Lock}
-use Rattle.lockunits.specs.Letters as Locks
-use Rattle.lockunits.specs.Rules as LockRules
-use Rattle.lockunits.specs.Rules.{lock_after, board_after, replied, enrol_rule, decline_rule}
+use Rattle.controllers.specs.declared.controller.Controller.{Controller}
+use Rattle.controllers.specs.Letters as Controllers
+use Rattle.controllers.specs.Rules as ControllerRules
+use Rattle.controllers.specs.Rules.{ring_rule, propose_rule}
+use Rattle.locks.specs.declared.lock.Lock.{Lock}
+use Rattle.locks.specs.Letters as Locks
+use Rattle.locks.specs.Rules as LockRules
+use Rattle.locks.specs.Rules.{lock_after, board_after, replied, enrol_rule, decline_rule}
 use Rattle.office.specs.declared.Office.{Office}
 use Rattle.office.specs.Rules.{order_reply}
 

@@ -5,7 +5,7 @@ use Rattle.terms.specs.declared.sizes.Sizes.{Sizes}
 use Rattle.letters.specs.declared.sorts.Seal.{Seal}
 use Rattle.posting.specs.declared.few.AtMostTwo.TheVariants.{Nothing, One, Two}
 use Rattle.posting.specs.Replies.{Bodies}
-use Rattle.controllerunits.specs.declared.controller.Controller.{Controller}
+use Rattle.controllers.specs.declared.controller.Controller.{Controller}
 use Rattle.steps.specs.Steps.{ControllerStep, controller_next, controller_sends}
 use Rattle.steps.specs.Laws.{Voice, voice_of}
 

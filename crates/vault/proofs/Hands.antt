@@ -1,5 +1,5 @@
 -- The turn of a party that bytes are handed to, step by step.
-use Rattle.std.proofs.Common.{◌≡◌, ℕ, ◌<◌, Bool, true, false, cond, ltb, List, length, get_or, set, Some, None, Ok, Err, Option, Result, sym, refl, ap, ◌∙◌, subst, arith}
+use Rattle.std.proofs.Common.{◌≡◌, ℕ, ◌<◌, true, false, cond, ltb, List, length, get_or, set, Ok, Err, Result, sym, refl, ap, ◌∙◌, subst, arith}
 use Rattle.std.proofs.lemmas.Bool.Decides.{nat_tests}
 use Rattle.terms.specs.declared.refusals.Refusal.{Refusal}
 use Rattle.terms.specs.Parties.{party_number}
@@ -7,7 +7,6 @@ use Rattle.terms.specs.Refusals.{no_room}
 use Rattle.letters.specs.declared.bodies.Body.{Body}
 use Rattle.letters.specs.declared.bodies.Body.TheVariants as B
 use Rattle.letters.specs.declared.bodies.Letter.{Letter}
-use Rattle.letters.specs.declared.sorts.Seal.{Seal}
 use Rattle.reading.specs.Parts.{Span, Spans}
 use Rattle.kept.specs.Kept.{kept, kept_body}
 use Rattle.boards.specs.Boards.{Meaning}
@@ -18,12 +17,12 @@ use Rattle.posting.specs.declared.few.AtMostTwo.{AtMostTwo}
 use Rattle.posting.specs.Calls as Unit-calls
 use Rattle.posting.specs.Calls.{Goes, has_room, pointed}
 use Rattle.posting.proofs.Goes.{goes_along, goes_cleared, room_cleared, scratch_room}
-use Rattle.controllerunits.specs.declared.controller.Controller.{Controller}
-use Rattle.controllerunits.specs.Letters as Controllers
-use Rattle.lockunits.specs.declared.lock.Lock.{Lock}
-use Rattle.lockunits.specs.Letters as Locks
-use Rattle.lockunits.specs.Rules.{replied, board_after, board_called}
-use Rattle.agreement.specs.Calls.{Vault, State, Call, Went, went, Turn, halted, unopened, of_controller, controller_at, controller_went, after_opening, opens, letter_to_controller, letter_to_lock, lock_at, sender, no_such_unit}
+use Rattle.controllers.specs.declared.controller.Controller.{Controller}
+use Rattle.controllers.specs.Letters as Controllers
+use Rattle.locks.specs.declared.lock.Lock.{Lock}
+use Rattle.locks.specs.Letters as Locks
+use Rattle.locks.specs.Rules.{replied, board_after, board_called}
+use Rattle.agreement.specs.Calls.{Vault, State, Call, Went, went, Turn, halted, unopened, controller_at, controller_went, after_opening, opens, letter_to_controller, letter_to_lock, lock_at, sender, no_such_unit}
 use Rattle.vault.specs.Vaults.{Turned}
 use Rattle.vault.proofs.Steps.{turned_along, halted_turn, unopened_turn, controller_goes, lock_goes}
 

@@ -1,12 +1,12 @@
 -- Records made new one after the other, and places found idle one after the other.
-use Rattle.std.proofs.Common.{◌≡◌, ℕ, zero, suc, ◌+◌, ◌<◌, ◌≤◌, Bool, true, false, cond, not, ◌&&◌, List, [], ◌∷◌, length, get_or, set, Ok, Err, sym, refl, ap, ◌∙◌, add-one, arith, length-set}
+use Rattle.std.proofs.Common.{◌≡◌, ℕ, zero, suc, ◌+◌, Bool, true, false, cond, not, ◌&&◌, List, length, set, Ok, Err, refl, ap, ◌∙◌, add-one, arith, length-set}
 use Rattle.terms.specs.declared.refusals.Refusal.{Refusal}
 use Rattle.terms.specs.Numbers.{place}
 use Rattle.terms.specs.Refusals.{set_up}
 use Rattle.terms.specs.Sizes.{counts}
 use Rattle.boards.specs.Boards.{Meaning, has_staged}
-use Rattle.controllerunits.specs.declared.controller.Controller.{Controller}
-use Rattle.lockunits.specs.declared.lock.Lock.{Lock}
+use Rattle.controllers.specs.declared.controller.Controller.{Controller}
+use Rattle.locks.specs.declared.lock.Lock.{Lock}
 use Rattle.vault.specs.SetUps.{renewed, unstaged_below, vault_set_up, controllers_set_up, locks_set_up}
 
 pub renewed_none : {U : Type 0} (new : ℕ → U) (us : List U) → renewed new 0 us ≡ us

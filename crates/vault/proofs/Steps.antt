@@ -1,9 +1,9 @@
 -- From what a unit's call says to what the call on the whole vault says.
-use Rattle.std.proofs.Common.{◌≡◌, ℕ, zero, suc, ◌<◌, Bool, true, false, cond, ◌&&◌, ltb, List, [], ◌∷◌, length, get_or, set, is_ok, Some, None, Ok, Err, Option, Result, sym, refl, ap, ◌∙◌, subst, arith}
+use Rattle.std.proofs.Common.{◌≡◌, ℕ, zero, suc, ◌<◌, Bool, true, false, cond, ◌&&◌, ltb, List, [], ◌∷◌, length, get_or, set, Some, None, Ok, Err, Option, Result, sym, refl, ap, ◌∙◌, subst, arith}
+use Rattle.std.specs.Result.{result_ok}
 use Rattle.std.proofs.lemmas.Bool.Decides.{nat_tests}
 use Rattle.terms.specs.declared.numbers.Change.{Change}
 use Rattle.terms.specs.declared.numbers.Place.{Place}
-use Rattle.terms.specs.declared.numbers.Seat.{Seat}
 use Rattle.terms.specs.declared.refusals.Refusal.{Refusal}
 use Rattle.terms.specs.declared.refusals.RuleCause.{RuleCause}
 use Rattle.terms.specs.declared.sizes.Sizes.{Sizes}
@@ -20,10 +20,10 @@ use Rattle.posting.specs.Calls.{Goes, has_room, pointed, reply_sealed}
 use Rattle.posting.specs.Posting.{no_seals}
 use Rattle.posting.specs.Replies.{Bodies, Reply, refused, served}
 use Rattle.posting.proofs.Goes.{scratch_room}
-use Rattle.controllerunits.specs.declared.controller.Controller.{Controller}
-use Rattle.lockunits.specs.declared.lock.Lock.{Lock}
-use Rattle.lockunits.specs.Rules as Lock-rules
-use Rattle.lockunits.specs.Rules.{replied, board_after, board_called, nothing, passing, enrol_rule, may_apply, decline_rule, may_decline}
+use Rattle.controllers.specs.declared.controller.Controller.{Controller}
+use Rattle.locks.specs.declared.lock.Lock.{Lock}
+use Rattle.locks.specs.Rules as Lock-rules
+use Rattle.locks.specs.Rules.{replied, board_after, board_called, nothing, passing, enrol_rule, may_apply, decline_rule, may_decline}
 use Rattle.office.specs.declared.Office.{Office}
 use Rattle.agreement.specs.Calls.{Vault, State, Call, Went, went, Turn, halted, unopened, of_controller, of_lock, of_office, asks_controller, asks_lock, controller_at, lock_at, no_such_unit, turn_of, turn_went, turn_sealed, controller_went, lock_went, office_went, step, Step}
 use Rattle.vault.specs.Vaults.{reach, Turned}
@@ -184,6 +184,11 @@ pub office_turn :
     (v : Vault) (s : State) (call : Call) (r : Reply Refusal Office) (w : Unit-calls.Went Office) →
     Goes v.relation v.change s.office call.out call.scratch (λ z. r) w → Turned v s call (of_office r) (office_went s w)
 office_turn v s call r w g = record { seals = g.seals; words = g.words; goes = ap (office_went s) g.goes; sealed = g.sealed }
+
+-- the index that is reached
+pub ok_at : (r : Result ℕ Refusal) (at : ℕ) → Some at ≡ result_ok r → Ok at ≡ r
+ok_at (Ok n) at e = cc
+ok_at (Err x) at e = let z : ◌≡◌ {A = ℕ} 0 1 = cc in absurd (omega arith)
 
 -- a question to the unit that is reached
 pub asked_at :

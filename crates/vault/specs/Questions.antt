@@ -1,5 +1,5 @@
 -- What a vault answers to questions: none of a unit that is absent, or that the table does not reach.
-use Rattle.std.specs.Prelude.{ℕ, Bool, cond, ◌&&◌, List, length, Some, None, Option, nat_lt, slice_index_or}
+use Rattle.std.specs.Prelude.{ℕ, cond, ◌&&◌, List, length, Some, None, Option, nat_lt, slice_index_or}
 use Rattle.terms.specs.declared.numbers.KeyNumber.{KeyNumber}
 use Rattle.terms.specs.declared.numbers.Place.{Place}
 use Rattle.terms.specs.declared.numbers.View.{View}
@@ -8,11 +8,11 @@ use Rattle.terms.specs.Numbers.{seat, place}
 use Rattle.terms.specs.Parties.{place_in}
 use Rattle.terms.specs.Sizes.{seat_count}
 use Rattle.boards.specs.Boards.{Meaning, in_force, staged_at}
-use Rattle.controllerunits.specs.declared.controller.Controller.{Controller}
-use Rattle.controllerunits.specs.Letters.{fresh_controller}
-use Rattle.lockunits.specs.declared.lock.Lock.{Lock}
-use Rattle.lockunits.specs.declared.lock.Standing.{Standing}
-use Rattle.lockunits.specs.Fresh.{fresh_lock}
+use Rattle.controllers.specs.declared.controller.Controller.{Controller}
+use Rattle.controllers.specs.Letters.{fresh_controller}
+use Rattle.locks.specs.declared.lock.Lock.{Lock}
+use Rattle.locks.specs.declared.lock.Standing.{Standing}
+use Rattle.locks.specs.Fresh.{fresh_lock}
 use Rattle.vault.specs.declared.vault.Vault.{Vault}
 
 abbrev pub view_at : Vault → List Controller → ℕ → Option View

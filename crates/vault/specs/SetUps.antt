@@ -1,15 +1,15 @@
 -- Setting up a vault.
-use Rattle.std.specs.Prelude.{◌≡◌, ℕ, zero, suc, ◌+◌, ◌*◌, Bool, true, false, cond, not, ◌&&◌, List, length, set, Ok, Err, Result, nat_le, slice_set}
+use Rattle.std.specs.Prelude.{◌≡◌, ℕ, zero, suc, ◌+◌, ◌*◌, Bool, true, false, cond, not, ◌&&◌, List, length, Ok, Err, Result, nat_le, slice_set}
 use Rattle.terms.specs.declared.numbers.Change.{Change}
 use Rattle.terms.specs.declared.refusals.Refusal.{Refusal}
 use Rattle.terms.specs.Numbers.{is_change, change, seat, place}
 use Rattle.terms.specs.Refusals.{set_up}
 use Rattle.terms.specs.Sizes.{Counts, counts}
 use Rattle.boards.specs.Boards.{Meaning, how_many, has_staged}
-use Rattle.controllerunits.specs.declared.controller.Controller.{Controller}
-use Rattle.controllerunits.specs.Letters.{fresh_controller}
-use Rattle.lockunits.specs.declared.lock.Lock.{Lock}
-use Rattle.lockunits.specs.Fresh.{fresh_lock}
+use Rattle.controllers.specs.declared.controller.Controller.{Controller}
+use Rattle.controllers.specs.Letters.{fresh_controller}
+use Rattle.locks.specs.declared.lock.Lock.{Lock}
+use Rattle.locks.specs.Fresh.{fresh_lock}
 use Rattle.office.specs.declared.Office.{Office}
 use Rattle.office.specs.Rules.{office}
 use Rattle.agreement.specs.Runs.{SetUp}

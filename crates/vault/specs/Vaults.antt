@@ -1,13 +1,13 @@
 -- A vault over lent tables: what its calls find and leave, and its set-up.
-use Rattle.std.specs.Prelude.{◌≡◌, ℕ, Bool, true, cond, ◌&&◌, List, is_ok, Ok, Err, Option, Result, nat_lt}
+use Rattle.std.specs.Prelude.{◌≡◌, ℕ, true, cond, ◌&&◌, List, is_ok, Ok, Err, Option, Result, nat_lt}
 use Rattle.terms.specs.declared.parties.Party.{Party}
 use Rattle.terms.specs.declared.refusals.Refusal.{Refusal}
 use Rattle.seals.specs.Opening.{Relation}
 use Rattle.boards.specs.Boards.{Meaning}
 use Rattle.posting.specs.declared.few.Seals.{Seals}
 use Rattle.posting.specs.Posting.{are_words}
-use Rattle.controllerunits.specs.declared.controller.Controller.{Controller}
-use Rattle.lockunits.specs.declared.lock.Lock.{Lock}
+use Rattle.controllers.specs.declared.controller.Controller.{Controller}
+use Rattle.locks.specs.declared.lock.Lock.{Lock}
 use Rattle.agreement.specs.Calls as Calls
 use Rattle.agreement.specs.Calls.{State, Request, Call, Went, Turn, turn_went, turn_sealed, handed_to, no_such_unit}
 use Rattle.vault.specs.declared.vault.Vault.{Vault}

@@ -6,8 +6,8 @@ ghost use Rattle.vault.specs.Vaults as Vaults;
 
 use crate::vault::Vault;
 use boards::board::Board;
-use controllerunits::controller::Controller;
-use lockunits::lock::Lock;
+use controllers::controller::Controller;
+use locks::lock::Lock;
 use posting::few::AtMostTwo;
 use schemes::scheme::Scheme;
 use terms::refusals::{CallCause, Cause, Refusal};
@@ -61,10 +61,8 @@ impl Vault {
     ) -> Result<AtMostTwo<usize>, Refusal>
         ensures { Calls.Step (Vaults.constant self.now (S.Scheme.holds scheme.now)) (Vaults.state controllers.old locks.now self.now (B.Board.meaning board.now)) (Vaults.call (Calls.rings seat) out.old scratch.old) (Calls.went result (Vaults.state controllers.new locks.now self.now (B.Board.meaning board.now)) out.new scratch.new) }
     {
-        match self.seat_at(seat, controllers.len()) {
-            Ok(at) => controllers[at].ring(self.change, scheme, scratch, out),
-            Err(refusal) => Err(refusal),
-        }
+        let at = self.seat_at(seat, controllers.len())?;
+        controllers[at].ring(self.change, scheme, scratch, out)
     }
 
     pub(crate) fn propose_one<S: Scheme, B: Board>(
@@ -79,10 +77,8 @@ impl Vault {
     ) -> Result<AtMostTwo<usize>, Refusal>
         ensures { Calls.Step (Vaults.constant self.now (S.Scheme.holds scheme.now)) (Vaults.state controllers.old locks.now self.now (B.Board.meaning board.now)) (Vaults.call (Calls.proposes seat) out.old scratch.old) (Calls.went result (Vaults.state controllers.new locks.now self.now (B.Board.meaning board.now)) out.new scratch.new) }
     {
-        match self.seat_at(seat, controllers.len()) {
-            Ok(at) => controllers[at].propose(self.sizes, self.change, scheme, scratch, out),
-            Err(refusal) => Err(refusal),
-        }
+        let at = self.seat_at(seat, controllers.len())?;
+        controllers[at].propose(self.sizes, self.change, scheme, scratch, out)
     }
 
     pub(crate) fn enrol_one<S: Scheme, B: Board>(
@@ -97,10 +93,8 @@ impl Vault {
     ) -> Result<AtMostTwo<usize>, Refusal>
         ensures { Calls.Step (Vaults.constant self.now (S.Scheme.holds scheme.now)) (Vaults.state controllers.now locks.old self.now (B.Board.meaning board.now)) (Vaults.call (Calls.enrols place) out.old scratch.old) (Calls.went result (Vaults.state controllers.now locks.new self.now (B.Board.meaning board.now)) out.new scratch.new) }
     {
-        match self.place_at(place, locks.len()) {
-            Ok(at) => locks[at].enrol(self.change, scheme, scratch, out),
-            Err(refusal) => Err(refusal),
-        }
+        let at = self.place_at(place, locks.len())?;
+        locks[at].enrol(self.change, scheme, scratch, out)
     }
 
     pub(crate) fn decline_one<S: Scheme, B: Board>(
@@ -115,10 +109,8 @@ impl Vault {
     ) -> Result<AtMostTwo<usize>, Refusal>
         ensures { Calls.Step (Vaults.constant self.now (S.Scheme.holds scheme.now)) (Vaults.state controllers.now locks.old self.now (B.Board.meaning board.now)) (Vaults.call (Calls.declines place) out.old scratch.old) (Calls.went result (Vaults.state controllers.now locks.new self.now (B.Board.meaning board.now)) out.new scratch.new) }
     {
-        match self.place_at(place, locks.len()) {
-            Ok(at) => locks[at].decline(self.change, scheme, scratch, out),
-            Err(refusal) => Err(refusal),
-        }
+        let at = self.place_at(place, locks.len())?;
+        locks[at].decline(self.change, scheme, scratch, out)
     }
 
     pub(crate) fn order_one<S: Scheme, B: Board>(

@@ -7,8 +7,8 @@ ghost use Rattle.vault.specs.Vaults as Vaults;
 use crate::calls::no_such_unit;
 use crate::vault::Vault;
 use boards::board::Board;
-use controllerunits::controller::Controller;
-use lockunits::lock::Lock;
+use controllers::controller::Controller;
+use locks::lock::Lock;
 use posting::few::AtMostTwo;
 use posting::room::require_room;
 use schemes::scheme::Scheme;
@@ -18,6 +18,7 @@ use terms::parties::Party;
 use terms::refusals::Refusal;
 
 impl Vault {
+    // A lock's tests are alike: a shared function would have to tell what opening leaves of the scratch buffer.
     fn hand_to_controller<S: Scheme, B: Board>(
         &self,
         controllers: &mut [Controller],
@@ -37,12 +38,8 @@ impl Vault {
             return Err(no_such_unit());
         }
         require_room(out.len(), scratch.len())?;
-        match open(self.sizes, scheme, bytes, scratch) {
-            Ok(opened) => {
-                controllers[at].receive(self.sizes, self.change, scheme, opened, scratch, out)
-            }
-            Err(refusal) => Err(refusal),
-        }
+        let opened = open(self.sizes, scheme, bytes, scratch)?;
+        controllers[at].receive(self.sizes, self.change, scheme, opened, scratch, out)
     }
 
     fn hand_to_lock<S: Scheme, B: Board>(
@@ -64,12 +61,8 @@ impl Vault {
             return Err(no_such_unit());
         }
         require_room(out.len(), scratch.len())?;
-        match open(self.sizes, scheme, bytes, scratch) {
-            Ok(opened) => {
-                locks[at].receive(self.sizes, self.change, scheme, board, opened, scratch, out)
-            }
-            Err(refusal) => Err(refusal),
-        }
+        let opened = open(self.sizes, scheme, bytes, scratch)?;
+        locks[at].receive(self.sizes, self.change, scheme, board, opened, scratch, out)
     }
 
     pub(crate) fn hand_in_one<S: Scheme, B: Board>(
@@ -108,6 +101,7 @@ impl Vault {
                 out,
                 unit,
             ),
+            // Two arms: as one they leave it open in the proof whether there is such a party.
             Some(Party::Office) => Err(no_such_unit()),
             None => Err(no_such_unit()),
         }

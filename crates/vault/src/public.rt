@@ -7,8 +7,8 @@ ghost use Rattle.vault.specs.Vaults as Vaults;
 
 use crate::vault::Vault;
 use boards::board::Board;
-use controllerunits::controller::Controller;
-use lockunits::lock::Lock;
+use controllers::controller::Controller;
+use locks::lock::Lock;
 use posting::few::AtMostTwo;
 use schemes::scheme::Scheme;
 use terms::refusals::Refusal;

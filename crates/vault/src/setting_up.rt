@@ -1,51 +1,60 @@
 // Setting up a vault.
-ghost use Rattle.std.specs.Prelude.{◌≡◌, ℕ, ◌+◌, ◌*◌, ◌<◌, ◌≤◌, length, slice_set};
+ghost use Rattle.std.specs.Prelude.{◌≡◌, ℕ, ◌+◌, ◌*◌, ◌<◌, ◌≤◌, cond, length, nat_lt, Some, None};
 ghost use Rattle.terms.specs.Numbers.{place};
 ghost use Rattle.boards.specs.Boards.{how_many, has_staged};
 ghost use Rattle.vault.specs.SetUps as SetUps;
 
 use crate::vault::Vault;
 use boards::board::Board;
-use controllerunits::controller::Controller;
-use lockunits::lock::Lock;
+use controllers::controller::Controller;
+use locks::lock::Lock;
 use office::Office;
 use terms::numbers::{Change, Place, Seat};
 use terms::refusals::{Refusal, set_up as cannot_set_up};
 use terms::sizes::Sizes;
 
-fn renew_controller(controllers: &mut [Controller], n: u8)
-    requires { (n < 16) × (n < length controllers.old) }
-    ensures { controllers.new ≡ slice_set controllers.old n (SetUps.new_controller n) }
-{
-    if let Some(seat) = Seat::new(n as u32) {
-        controllers[n as usize] = Controller::new(seat);
+// A unit that a table holds at its number.
+trait Numbered: Sized {
+    // How many numbers there are.
+    ghost numbers: { ℕ };
+
+    ghost new_at: { ℕ → Self };
+
+    // A new one with this number.
+    fn new_at(n: u8) -> Option<Self>
+        ensures { result ≡ cond (nat_lt n numbers) (Some (new_at n)) None };
+}
+
+impl Numbered for Controller {
+    ghost numbers = { 16 };
+
+    ghost new_at = { SetUps.new_controller };
+
+    fn new_at(n: u8) -> Option<Controller> {
+        Seat::new(n as u32).map(Controller::new)
     }
 }
 
-fn renew_controllers(controllers: &mut [Controller], count: u8)
-    requires { (count ≤ 16) × (count ≤ length controllers.old) }
-    ensures { controllers.new ≡ SetUps.renewed SetUps.new_controller count controllers.old }
+impl Numbered for Lock {
+    ghost numbers = { 8 };
+
+    ghost new_at = { SetUps.new_lock };
+
+    fn new_at(n: u8) -> Option<Lock> {
+        Place::new(n as u32).map(Lock::new)
+    }
+}
+
+// Makes the first units of a table new.
+fn renew<U: Numbered + Drop>(units: &mut [U], count: u8)
+    requires { (count ≤ U.numbers) × (count ≤ length units.old) }
+    ensures { units.new ≡ SetUps.renewed U.new_at count units.old }
 {
+    // By number: a unit is made from its own, which is also its row.
     for n in 0..count {
-        renew_controller(controllers, n);
-    }
-}
-
-fn renew_lock(locks: &mut [Lock], n: u8)
-    requires { (n < 8) × (n < length locks.old) }
-    ensures { locks.new ≡ slice_set locks.old n (SetUps.new_lock n) }
-{
-    if let Some(place) = Place::new(n as u32) {
-        locks[n as usize] = Lock::new(place);
-    }
-}
-
-fn renew_locks(locks: &mut [Lock], count: u8)
-    requires { (count ≤ 8) × (count ≤ length locks.old) }
-    ensures { locks.new ≡ SetUps.renewed SetUps.new_lock count locks.old }
-{
-    for n in 0..count {
-        renew_lock(locks, n);
+        if let Some(unit) = U::new_at(n) {
+            units[n as usize] = unit;
+        }
     }
 }
 
@@ -53,21 +62,14 @@ fn is_staged<B: Board>(board: &B, n: u32) -> bool
     requires { n < 8 }
     ensures { result ≡ has_staged (B.Board.meaning board.now) (place n) }
 {
-    match Place::new(n) {
-        Some(place) => board.staged(place).is_some(),
-        None => false,
-    }
+    Place::new(n).is_some_and(|place| board.staged(place).is_some())
 }
 
 // Nothing is staged at any place.
 fn is_idle<B: Board>(board: &B) -> bool
     ensures { result ≡ SetUps.unstaged_below (B.Board.meaning board.now) (how_many (B.Board.meaning board.now)) }
 {
-    let mut idle = true;
-    for n in 0..board.places() {
-        idle = idle && !is_staged(board, n);
-    }
-    idle
+    (0..board.places()).all(|n| !is_staged(board, n))
 }
 
 // The tables hold all units of a vault of these sizes, and the board has a place for each lock, with
@@ -80,13 +82,10 @@ fn is_furnished<B: Board>(
 ) -> bool
     ensures { result ≡ SetUps.furnished sizes.faults sizes.locks (B.Board.meaning board.now) controllers.now locks.now }
 {
-    if controllers.len() < sizes.seats() as usize || locks.len() < sizes.locks() as usize {
-        return false;
-    }
-    if board.places() < sizes.locks() as u32 {
-        return false;
-    }
-    is_idle(board)
+    controllers.len() >= sizes.seats() as usize
+        && locks.len() >= sizes.locks() as usize
+        && board.places() >= sizes.locks() as u32
+        && is_idle(board)
 }
 
 fn set_up_sized<B: Board>(
@@ -106,8 +105,8 @@ fn set_up_sized<B: Board>(
     if !is_furnished(sizes, board, controllers, locks) {
         return Err(cannot_set_up());
     }
-    renew_controllers(controllers, sizes.seats());
-    renew_locks(locks, sizes.locks());
+    renew(controllers, sizes.seats());
+    renew(locks, sizes.locks());
     Ok(Vault {
         sizes,
         change,
@@ -127,10 +126,8 @@ fn set_up_from<B: Board>(
     ensures controllers { controllers.new ≡ SetUps.controllers_set_up (SetUps.sets_up faults lock_count change (B.Board.meaning board.now) controllers.old locks.old) faults controllers.old }
     ensures locks { locks.new ≡ SetUps.locks_set_up (SetUps.sets_up faults lock_count change (B.Board.meaning board.now) controllers.old locks.old) lock_count locks.old }
 {
-    match Sizes::new(faults, lock_count) {
-        Ok(sizes) => set_up_sized(sizes, change, board, controllers, locks),
-        Err(refusal) => Err(refusal),
-    }
+    let sizes = Sizes::new(faults, lock_count)?;
+    set_up_sized(sizes, change, board, controllers, locks)
 }
 
 // Sets up a vault: makes the first records of both tables new. Sizes, change number, tables or board

@@ -1,19 +1,28 @@
-use Rattle.std.proofs.Common.{arith, rules}
-use Rattle.letters.specs.Sorts.{seal}
-use Rattle.locks.specs.Rules.{may_apply}
-use Rattle.locks.proofs.Small.{enrol_small, passed}
+use Rattle.std.proofs.Common.{rules}
+use Rattle.posting.specs.Calls.{pointed}
+use Rattle.posting.proofs.Goes.{goes_nowhere, goes-in-place, room_suffices, has_room_lem, has_no_room}
+use Rattle.locks.specs.Rules.{replied, enrol_rule}
+use Rattle.locks.proofs.Small.{enrol_fits}
 use Rattle.locks.proofs.lock.Lock.enrol.Goals as goal
 
-pub returns-then-out-lt256 : goal.returns-then-out-lt256
-returns-then-out-lt256 g c = record { seal = seal 0; goes = search rules; sealed = search rules }
-
-pub returns-then-scratch-lt24 : goal.returns-then-scratch-lt24
-returns-then-scratch-lt24 g c = record { seal = seal 0; goes = search rules; sealed = search rules }
-
-pub returns-in-Err : goal.returns-in-Err
-returns-in-Err g c = record { seal = seal 0; goes = search rules; sealed = search rules }
-
-pub deliver-requires : goal.deliver-requires
-deliver-requires g c =
+pub returns-in_err-require_room : goal.returns-in_err-require_room
+returns-in_err-require_room g c =
     let k = c.args.self.now in
-    (omega arith, (omega arith, passed c.args.change (may_apply k) _ _ _ _ (enrol_small c.args.change k.place) c.in-Ok.ensures.answer))
+    let out = c.args.out.now in
+    let scratch = c.args.scratch.now in
+    let call =
+    goes_nowhere (g.S.Scheme.holds c.args.scheme.now) c.args.change k out scratch (λ _. pointed 0 (replied (enrol_rule k))) _
+    (has_no_room out scratch _ c.in_err-require_room.ensures) (search rules) in
+    record { call = call; room_suffices = room_suffices c.args.change 0 k out scratch _ (replied (enrol_rule k)) _ (enrol_fits c.args.change k out scratch) call }
+
+pub returns : goal.returns
+returns g c =
+    let k = c.args.self.now in
+    let out = c.args.out.now in
+    let scratch = c.args.scratch.now in
+    let room = has_room_lem out scratch _ c.in_ok-require_room.ensures in
+    let call =
+    goes-in-place c.args.change 0 k out scratch _ (replied (enrol_rule k)) _ c.finish.result _ _ _ _
+    room (enrol_fits c.args.change k out scratch room)
+    c.apply-reply.ensures.answer c.apply-reply.ensures.lock c.finish.ensures.ends c.finish.ensures.words c.finish.ensures.sealed c.answer.ensures in
+    record { call = call; room_suffices = room_suffices c.args.change 0 k out scratch _ (replied (enrol_rule k)) _ (enrol_fits c.args.change k out scratch) call }

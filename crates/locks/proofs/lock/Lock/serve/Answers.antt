@@ -1,37 +1,49 @@
-use Rattle.std.proofs.Common.{arith, rules}
-use Rattle.letters.specs.Sorts.{seal}
+use Rattle.std.proofs.Common.{cond, sym, ap, ◌∙◌, rules}
+use Rattle.posting.specs.Calls.{ended, pointed}
+use Rattle.posting.specs.Posting.{seals_in}
+use Rattle.posting.proofs.Goes.{goes_nowhere, goes-in-place, room_suffices, has_room_lem, has_no_room}
+use Rattle.terms.specs.Parties.{party_number}
+use Rattle.letters.specs.Senders.{sender_of}
 use Rattle.locks.specs.Letters.{letter_rule}
-use Rattle.locks.proofs.Goes.{goes_served, goes_refused, board_roomed}
-use Rattle.locks.proofs.Small.{letter_small}
+use Rattle.locks.specs.Rules.{replied, board_after}
+use Rattle.locks.proofs.Small.{letter_fits_holds}
 use Rattle.locks.proofs.lock.Lock.serve.Goals as goal
 
-pub returns-then-out-lt256 : goal.returns-then-out-lt256
-returns-then-out-lt256 g c = record { call = record { seal = seal 0; goes = search rules; sealed = search rules }; board = search rules }
-
-pub returns-then-scratch-lt24 : goal.returns-then-scratch-lt24
-returns-then-scratch-lt24 g c = record { call = record { seal = seal 0; goes = search rules; sealed = search rules }; board = search rules }
-
-pub deliver-requires : goal.deliver-requires
-deliver-requires g c =
-    (omega arith, (omega arith, letter_small c.args.change c.args.sizes c.args.self.now (g.B.Board.meaning c.args.board.now) c.args.letter c.in-Ok.body c.in-Ok.ensures.answer))
-
-pub returns-in-Ok : goal.returns-in-Ok
-returns-in-Ok g c =
+pub returns-in_err-require_room : goal.returns-in_err-require_room
+returns-in_err-require_room g c =
+    let none = has_no_room c.args.out.now c.args.scratch.now _ c.in_err-require_room.ensures in
     let k = c.args.self.now in
     let m = g.B.Board.meaning c.args.board.now in
     let rule = letter_rule c.args.sizes c.args.change k m c.args.letter in
-    let sent = c.deliver.ensures in
+    let from = party_number (sender_of c.args.letter.body) in
+    let out = c.args.out.now in
+    let scratch = c.args.scratch.now in
+    let call = goes_nowhere (g.S.Scheme.holds c.args.scheme.now) c.args.change k out scratch (λ _. pointed from (replied rule)) _ none (search rules) in
     record {
-      call = goes_served _ c.args.change _ k c.args.out.now c.args.scratch.now sent.seal rule c.in-Ok.body _ _ (omega arith) (omega arith) c.in-Ok.ensures.answer c.in-Ok.ensures.lock sent.sealed (search rules);
-      board = board_roomed m _ k.place c.args.out.now c.args.scratch.now rule (omega arith) (omega arith) c.in-Ok.ensures.board;
+      call = call;
+      room_suffices = room_suffices c.args.change from k out scratch _ (replied rule) _ (λ h. letter_fits_holds c.args.change k out scratch h c.args.sizes m c.args.letter) call;
+      board = sym (ap (λ b. cond b (board_after m k.place (letter_rule c.args.sizes c.args.change k m c.args.letter)) m) none);
     }
 
-pub returns-in-Err : goal.returns-in-Err
-returns-in-Err g c =
+pub returns : goal.returns
+returns g c =
     let k = c.args.self.now in
+    let out = c.args.out.now in
+    let scratch = c.args.scratch.now in
     let m = g.B.Board.meaning c.args.board.now in
     let rule = letter_rule c.args.sizes c.args.change k m c.args.letter in
+    let room = has_room_lem out scratch _ c.in_ok-require_room.ensures in
+    let reply = c.take_letter-reply.ensures in
+    let a = c.finish.result in
+    let from = party_number (sender_of c.args.letter.body) in
+    let call =
+    goes-in-place c.args.change from k out scratch _ (replied rule) _ a _ _ _ _
+    room (letter_fits_holds c.args.change k out scratch room c.args.sizes m c.args.letter)
+    reply.follows.answer reply.follows.lock
+    (c.finish.ensures.ends ∙ ap (λ n. ended c.args.change n c.take_letter-reply.result (seals_in a) out scratch) c.sender_number-sender.ensures)
+    c.finish.ensures.words c.finish.ensures.sealed c.answer.ensures in
     record {
-      call = goes_refused _ c.args.change _ k c.args.out.now c.args.scratch.now rule c.in-Err.cause _ _ (omega arith) (omega arith) c.in-Err.ensures.answer c.in-Err.ensures.lock (search rules);
-      board = board_roomed m _ k.place c.args.out.now c.args.scratch.now rule (omega arith) (omega arith) c.in-Err.ensures.board;
+      call = call;
+      room_suffices = room_suffices c.args.change from k out scratch _ (replied rule) _ (λ h. letter_fits_holds c.args.change k out scratch h c.args.sizes m c.args.letter) call;
+      board = reply.board ∙ sym (ap (λ b. cond b (board_after m k.place rule) m) room);
     }

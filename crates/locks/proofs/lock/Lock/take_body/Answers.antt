@@ -9,7 +9,9 @@ returns-in-Result g c =
     let m = g.B.Board.meaning c.args.board.now in
     let same = ap (body_rule c.args.sizes k m) (sym c.in-Result.is) in
     record {
-      answer = c.take_result.ensures.answer ∙ ap sends same;
-      lock = c.take_result.ensures.lock ∙ ap (lock_after k) same;
+      follows = record {
+        answer = c.take_result.ensures.follows.answer ∙ ap sends same;
+        lock = c.take_result.ensures.follows.lock ∙ ap (lock_after k) same;
+      };
       board = c.take_result.ensures.board ∙ ap (board_after m k.place) same;
     }

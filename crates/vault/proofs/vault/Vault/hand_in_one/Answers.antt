@@ -1,7 +1,7 @@
-use Rattle.std.proofs.Common.{◌≡◌, Some, None, sym, ap, ◌∙◌, rules}
+use Rattle.std.proofs.Common.{◌≡◌, Some, None, ap, rules}
 use Rattle.terms.specs.declared.parties.Party.TheVariants as P
 use Rattle.terms.specs.Parties.{party_in}
-use Rattle.agreement.specs.Calls.{halted, no_such_unit, hands_in}
+use Rattle.agreement.specs.Calls.{hands_in}
 use Rattle.vault.specs.Vaults.{constant, state, call, handed}
 use Rattle.vault.proofs.Steps.{step_by, no_such_step}
 use Rattle.vault.proofs.vault.Vault.hand_in_one.Goals as goal

@@ -1,8 +1,0 @@
-// A lock, by its rules.
-#![tactic(auto)]
-
-mod calls;
-mod letters_in;
-pub mod lock;
-mod receiving;
-mod rules;

@@ -1,9 +1,0 @@
-use Rattle.std.proofs.Common.{rules}
-use Rattle.vault.proofs.Renews.{renewed_none, renewed_more, length_renewed}
-use Rattle.vault.proofs.setting_up.renew_locks.Goals as goal
-
-pub loop-n-init : goal.loop-n-init
-loop-n-init c = search (rules, renewed_none)
-
-pub loop-n-preserved : goal.loop-n-preserved
-loop-n-preserved c = search (rules, renewed_more)
