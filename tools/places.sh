@@ -3,7 +3,7 @@
 # With the argument `show` it prints the lines too.
 set -uo pipefail
 show=${1:-}
-src() { find crates -path '*/src/*' -name '*.rt' | sort; }
+src() { find crates -name out -prune -o -path '*/src/*' -name '*.rt' -print | sort; }
 count() {
     local name=$1 pattern=$2
     local found
@@ -41,6 +41,6 @@ count 'tables in fields' '^ *(pub(\([a-z]+\))? )?[a-z_]+: \[Option<.*; [0-9]+\],
 echo 'point 7'
 count 'functions that take a closure' '(impl |: )Fn(Once|Mut)?\('
 echo 'point 8'
-printf '%-58s %s\n' 'files of answers' "$(find crates -name Answers.antt | wc -l)"
-printf '%-58s %s\n' 'lines of answers and invariants' "$(find crates \( -name Answers.antt -o -name Invariants.antt \) -exec cat {} + | wc -l)"
-printf '%-58s %s\n' 'lines of proofs' "$(find crates -path '*/proofs/*.antt' -exec cat {} + | wc -l)"
+printf '%-58s %s\n' 'files of answers' "$(find crates -name out -prune -o -name Answers.antt -print | wc -l)"
+printf '%-58s %s\n' 'lines of answers and invariants' "$(find crates -name out -prune -o \( -name Answers.antt -o -name Invariants.antt \) -exec cat {} + | wc -l)"
+printf '%-58s %s\n' 'lines of proofs' "$(find crates -name out -prune -o -path '*/proofs/*.antt' -exec cat {} + | wc -l)"
