@@ -2,6 +2,7 @@
 ghost use Rattle.std.specs.Prelude.{◌≡◌};
 ghost use Rattle.letters.specs.Sorts.{kind_number, kind_of, answer_number, answer_of, in_range, holds_seat};
 
+use crate::maps::stands;
 use terms::numbers::Seat;
 use terms::refusals::FormCause;
 
@@ -111,6 +112,6 @@ impl SeatSet {
     pub fn holds(self, seat: Seat) -> bool
         ensures { result ≡ holds_seat self seat }
     {
-        seat.number() < 16 && (self.0 >> seat.number()) % 2 == 1
+        seat.number() < 16 && stands(self.0, seat.number())
     }
 }

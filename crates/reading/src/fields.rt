@@ -1,9 +1,9 @@
 // The fields of a letter, one after the other.
 ghost use Rattle.std.specs.Prelude.{◌≡◌, ℕ, ◌+◌, ◌-◌, ◌*◌, ◌/◌, ◌%◌, ◌^◌, ◌<◌, ◌≤◌, length, nat_le};
-ghost use Rattle.letters.specs.Sorts.{stands};
 ghost use Rattle.reading.specs.Fields as Fields;
 ghost use Rattle.reading.specs.Reads.{Reads};
 
+use letters::maps::stands;
 use letters::sorts::{Answer, Digest, Kind, Seal, SeatSet};
 use terms::numbers::{Change, KeyNumber, Place, Seat, View};
 use terms::parties::{Outcome, Party};
@@ -15,13 +15,6 @@ use terms::sizes::Sizes;
 pub(crate) struct Reader<'a> {
     pub(crate) bytes: &'a [u8],
     pub(crate) at: usize,
-}
-
-pub(crate) fn bit_stands(map: u16, bit: u16) -> bool
-    requires { bit < 16 }
-    ensures { result ≡ stands map bit }
-{
-    (map >> bit) % 2 == 1
 }
 
 pub(crate) fn refusal(cause: FormCause, place: usize) -> Refusal
@@ -119,7 +112,7 @@ impl Reader<'_> {
     {
         let at = self.at;
         let map = self.take_two()?;
-        if map < 8192 && bit_stands(map, 0) {
+        if map < 8192 && stands(map, 0) {
             Ok(map)
         } else {
             Err(refusal(FormCause::UnfitMap, at))

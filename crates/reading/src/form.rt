@@ -4,12 +4,12 @@ ghost use Rattle.reading.specs.Form as Form;
 ghost use Rattle.reading.specs.Parts.{told};
 ghost use Rattle.reading.specs.Reads.{ReadsBody};
 
-use crate::fields::{Reader, bit_stands, checked, refusal};
+use crate::fields::{Reader, checked, refusal};
 use crate::parts::{Grounds, Part};
 use letters::bodies::{Body, Letter};
 use letters::maps::{
     ANSWER, BASIS, BASIS_BIT, CERTIFICATE, COMMON, DIGEST, MOVERS, MOVERS_BIT, NUMBER, NUMBER_BIT,
-    OFFICE_SEAL, PLACE, VIEW,
+    OFFICE_SEAL, PLACE, VIEW, stands,
 };
 use letters::sorts::Kind;
 use terms::numbers::{Change, Seat, View};
@@ -80,7 +80,7 @@ impl<'a> Reader<'a> {
         ensures { ReadsBody (Form.order_body sizes map) self.old self.new result }
     {
         self.take_office(sizes)?;
-        let number = self.take_number_if(bit_stands(map, NUMBER_BIT))?;
+        let number = self.take_number_if(stands(map, NUMBER_BIT))?;
         Ok(Body::Order { number })
     }
 
@@ -116,9 +116,9 @@ impl<'a> Reader<'a> {
         let sender = self.take_controller(sizes)?;
         let at = self.at;
         let view = self.take_view()?;
-        let moved = bit_stands(map, MOVERS_BIT);
+        let moved = stands(map, MOVERS_BIT);
         checked(proposal_view_fits(sizes, change, view, sender, moved), at)?;
-        let outcome = self.take_outcome_if(bit_stands(map, NUMBER_BIT))?;
+        let outcome = self.take_outcome_if(stands(map, NUMBER_BIT))?;
         let certificate = self.take_certificate(sizes)?;
         let movers = self.take_movers_if(moved, sizes)?;
         Ok(Body::Proposal {
@@ -137,7 +137,7 @@ impl<'a> Reader<'a> {
         let at = self.at;
         let view = self.take_view()?;
         checked(!leads(sizes, change, view, sender), at)?;
-        let outcome = self.take_outcome_if(bit_stands(map, NUMBER_BIT))?;
+        let outcome = self.take_outcome_if(stands(map, NUMBER_BIT))?;
         let digest = self.take_digest()?;
         Ok(Body::Assent {
             sender,
@@ -152,7 +152,7 @@ impl<'a> Reader<'a> {
     {
         let sender = self.take_controller(sizes)?;
         let view = self.take_view()?;
-        let outcome = self.take_outcome_if(bit_stands(map, NUMBER_BIT))?;
+        let outcome = self.take_outcome_if(stands(map, NUMBER_BIT))?;
         let digest = self.take_digest()?;
         Ok(Body::Confirm {
             sender,
@@ -166,7 +166,7 @@ impl<'a> Reader<'a> {
         ensures { ReadsBody (Form.result_body sizes map) self.old self.new result }
     {
         let sender = self.take_controller(sizes)?;
-        let outcome = self.take_outcome_if(bit_stands(map, NUMBER_BIT))?;
+        let outcome = self.take_outcome_if(stands(map, NUMBER_BIT))?;
         Ok(Body::Result { sender, outcome })
     }
 
@@ -178,8 +178,8 @@ impl<'a> Reader<'a> {
         let view = self.take_view()?;
         checked(view.number() != 0, at)?;
         let basis = self.take_grounds_if(
-            bit_stands(map, BASIS_BIT),
-            bit_stands(map, NUMBER_BIT),
+            stands(map, BASIS_BIT),
+            stands(map, NUMBER_BIT),
             sizes,
             change,
             view,

@@ -4,8 +4,9 @@ ghost use Rattle.reading.specs.Parts.{between, span};
 ghost use Rattle.reading.specs.Spans as Spans;
 ghost use Rattle.reading.specs.Reads.{Reads, ReadsSpan, ReadsGrounds};
 
-use crate::fields::{Reader, bit_stands, checked};
+use crate::fields::{Reader, checked};
 use crate::parts::{Grounds, Part};
+use letters::maps::stands;
 use terms::numbers::{Change, View};
 use terms::parties::Outcome;
 use terms::refusals::Refusal;
@@ -74,7 +75,7 @@ impl<'a> Reader<'a> {
         let leader = sizes.leader(change, view).number();
         let fits = u32::from(n) >> sizes.seats() == 0
             && n.count_ones() == 2 * u32::from(sizes.faults())
-            && !bit_stands(n, u16::from(leader));
+            && !stands(n, leader);
         checked(fits, at)?;
         Ok(n)
     }
