@@ -33,7 +33,8 @@ fn stage_at<B: Board>(
     Ok(false)
 }
 
-// Stages the number at every place, and says whether all took it.
+// Stages the number at every place, and says whether all took it. Here and below the places go by number: what
+// the board has become is told by how many places are done.
 fn stage_everywhere<B: Board>(rt: &impl Print, board: &mut B, number: KeyNumber) -> io::Result<bool>
     ensures { elim result [ Ok all ↦ (all ≡ Everywhere.took (B.meaning board.old) number) × (B.meaning board.new ≡ Everywhere.staged (B.meaning board.old) number) | Err e ↦ Unit {0} ] }
 {

@@ -26,10 +26,8 @@ fn print_row<B: Board>(rt: &impl Print, board: &B, place: Place) -> io::Result<(
 // One row for each place: the number in force, and the staged one.
 pub fn print_doors<B: Board>(rt: &impl Print, board: &B) -> io::Result<()> {
     println!(rt; "  place  in force  staged")?;
-    for n in 0..board.places() {
-        if let Some(place) = Place::new(n) {
-            print_row(rt, board, place)?;
-        }
+    for place in (0..board.places()).filter_map(Place::new) {
+        print_row(rt, board, place)?;
     }
     Ok(())
 }
