@@ -27,10 +27,7 @@ pub trait Ballot {
 fn votes_for<B: Ballot>(slot: &Option<B>, with: &B) -> bool
     ensures { result ≡ votes_for B.agree with.now slot.now }
 {
-    match slot {
-        Some(ballot) => ballot.agrees(with),
-        None => false,
-    }
+    slot.as_ref().is_some_and(|ballot| ballot.agrees(with))
 }
 
 // How many of the ballots agree with one.

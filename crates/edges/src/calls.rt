@@ -7,19 +7,10 @@ use std::process::Abort;
 use std::test::Fail;
 use terms::numbers::{KeyNumber, Place};
 
-// Stands for no number.
-const NONE: u32 = 1_000_000;
-
-fn value(number: Option<KeyNumber>) -> u32 {
-    match number {
-        Some(number) => number.value(),
-        None => NONE,
-    }
-}
-
 // Whether a place shows these two numbers.
-fn shows<B: Board>(board: &B, place: Place, force: u32, staged: u32) -> bool {
-    value(board.in_force(place)) == force && value(board.staged(place)) == staged
+fn shows<B: Board>(board: &B, place: Place, force: Option<u32>, staged: Option<u32>) -> bool {
+    board.in_force(place).map(KeyNumber::value) == force
+        && board.staged(place).map(KeyNumber::value) == staged
 }
 
 #[test]
@@ -37,9 +28,7 @@ fn a_keypad_takes_no_digit_six_times(rt: HostRuntime) -> Result<(), Fail> {
         (1_000_001, false),
         (4_294_967_295, false),
     ];
-    let Ok(board) = Keypad::new(&[0]) else {
-        return Err(Fail::new("no board"));
-    };
+    let board = Keypad::new(&[0]).map_err(|_| "no board")?;
     let first = Place::new(0).ok_or("no place")?;
     let absent = Place::new(1).ok_or("no place")?;
     for &(number, taken) in &table {
@@ -65,9 +54,7 @@ fn wheels_take_last_digits_from_20(rt: HostRuntime) -> Result<(), Fail> {
         (1_000_020, false),
         (4_294_967_295, false),
     ];
-    let Ok(board) = WheelBoard::new(&[Wheels { a: 0, b: 0, c: 0 }]) else {
-        return Err(Fail::new("no board"));
-    };
+    let board = WheelBoard::new(&[Wheels { a: 0, b: 0, c: 0 }]).map_err(|_| "no board")?;
     let first = Place::new(0).ok_or("no place")?;
     let absent = Place::new(1).ok_or("no place")?;
     for &(number, taken) in &table {
@@ -98,12 +85,10 @@ fn wheels_turn_half_way_round(rt: HostRuntime) -> Result<(), Fail> {
             b: at,
             c: at,
         };
-        let Ok(mut board) = WheelBoard::new(&[wheels]) else {
-            return Err(Fail::new("no board"));
-        };
+        let mut board = WheelBoard::new(&[wheels]).map_err(|_| "no board")?;
         let number = KeyNumber::new(next).ok_or("no key number")?;
-        assert!(rt; board.stage(place, number) && shows(&board, place, force, next));
-        assert!(rt; board.take_over(place) && shows(&board, place, next, NONE));
+        assert!(rt; board.stage(place, number) && shows(&board, place, Some(force), Some(next)));
+        assert!(rt; board.take_over(place) && shows(&board, place, Some(next), None));
     }
     Ok(())
 }
@@ -115,15 +100,15 @@ fn calls_change_one_place<B: Board>(rt: &impl Abort, board: &mut B) -> Result<()
     let first = KeyNumber::new(123_456).ok_or("no key number")?;
     let second = KeyNumber::new(123_457).ok_or("no key number")?;
     assert!(rt; !board.take_over(place) && !board.drop_staged(place));
-    assert!(rt; shows(board, place, 8, NONE));
-    assert!(rt; board.stage(place, first) && shows(board, place, 8, 123_456));
+    assert!(rt; shows(board, place, Some(8), None));
+    assert!(rt; board.stage(place, first) && shows(board, place, Some(8), Some(123_456)));
     assert!(rt; !board.stage(place, second) && !board.stage(place, first));
-    assert!(rt; shows(board, place, 8, 123_456) && shows(board, other, 7, NONE));
-    assert!(rt; board.drop_staged(place) && shows(board, place, 8, NONE));
+    assert!(rt; shows(board, place, Some(8), Some(123_456)) && shows(board, other, Some(7), None));
+    assert!(rt; board.drop_staged(place) && shows(board, place, Some(8), None));
     assert!(rt; !board.drop_staged(place) && board.stage(place, second));
-    assert!(rt; board.take_over(place) && shows(board, place, 123_457, NONE));
-    assert!(rt; !board.take_over(place) && shows(board, place, 123_457, NONE));
-    assert!(rt; shows(board, other, 7, NONE) && board.places() == 2);
+    assert!(rt; board.take_over(place) && shows(board, place, Some(123_457), None));
+    assert!(rt; !board.take_over(place) && shows(board, place, Some(123_457), None));
+    assert!(rt; shows(board, other, Some(7), None) && board.places() == 2);
     Ok(())
 }
 
@@ -132,9 +117,9 @@ fn absent_places_answer_no<B: Board>(rt: &impl Abort, board: &mut B) -> Result<(
     let number = KeyNumber::new(123_456).ok_or("no key number")?;
     for n in 2..8 {
         let absent = Place::new(n).ok_or("no place")?;
-        assert!(rt; shows(board, absent, NONE, NONE) && !board.takes(absent, 123_456));
+        assert!(rt; shows(board, absent, None, None) && !board.takes(absent, 123_456));
         assert!(rt; !board.stage(absent, number) && !board.take_over(absent));
-        assert!(rt; !board.drop_staged(absent) && shows(board, absent, NONE, NONE));
+        assert!(rt; !board.drop_staged(absent) && shows(board, absent, None, None));
     }
     Ok(())
 }
@@ -147,15 +132,13 @@ fn untaken_numbers_stay_out<B: Board>(
 ) -> Result<(), Fail> {
     let place = Place::new(0).ok_or("no place")?;
     let number = KeyNumber::new(untaken).ok_or("no key number")?;
-    assert!(rt; !board.stage(place, number) && shows(board, place, 7, NONE));
+    assert!(rt; !board.stage(place, number) && shows(board, place, Some(7), None));
     Ok(())
 }
 
 #[test]
 fn a_keypad_serves_every_call(rt: HostRuntime) -> Result<(), Fail> {
-    let Ok(mut board) = Keypad::new(&[7, 8]) else {
-        return Err(Fail::new("no board"));
-    };
+    let mut board = Keypad::new(&[7, 8]).map_err(|_| "no board")?;
     for &untaken in &[0, 111_111, 999_999] {
         untaken_numbers_stay_out(&rt, &mut board, untaken)?;
     }
@@ -165,10 +148,10 @@ fn a_keypad_serves_every_call(rt: HostRuntime) -> Result<(), Fail> {
 
 #[test]
 fn a_wheel_board_serves_every_call(rt: HostRuntime) -> Result<(), Fail> {
-    let Ok(mut board) = WheelBoard::new(&[Wheels { a: 0, b: 0, c: 7 }, Wheels { a: 0, b: 0, c: 8 }])
-    else {
-        return Err(Fail::new("no board"));
-    };
+    let mut board = WheelBoard::new(&[
+        Wheels { a: 0, b: 0, c: 7 },
+        Wheels { a: 0, b: 0, c: 8 },
+    ]).map_err(|_| "no board")?;
     for &untaken in &[0, 19, 999_919] {
         untaken_numbers_stay_out(&rt, &mut board, untaken)?;
     }

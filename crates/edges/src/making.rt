@@ -66,9 +66,7 @@ fn sizes_have_their_ranges(rt: HostRuntime) {
 
 #[test]
 fn parties_have_their_numbers(rt: HostRuntime) -> Result<(), Fail> {
-    let Ok(sizes) = Sizes::new(1, 8) else {
-        return Err(Fail::new("no sizes"));
-    };
+    let sizes = Sizes::new(1, 8).map_err(|_| "no sizes")?;
     let table = [
         (0, true),
         (3, true),
@@ -120,7 +118,7 @@ fn any_key_number_is_in_force_on_a_keypad(rt: HostRuntime) {
     for &(number, fits) in &table {
         match Keypad::new(&[5, number]) {
             Ok(board) => assert!(rt;
-                fits && in_force(&board, 0) == 5 && in_force(&board, 1) == number
+                fits && in_force(&board, 0) == Some(5) && in_force(&board, 1) == Some(number)
             ),
             Err(refusal) => assert!(rt; !fits && is_set_up(refusal)),
         }
@@ -143,20 +141,15 @@ fn wheels_stand_at_0_to_99(rt: HostRuntime) {
     for &(a, b, c, number, fits) in &table {
         match WheelBoard::new(&[first, Wheels { a, b, c }]) {
             Ok(board) => assert!(rt;
-                fits && in_force(&board, 0) == 5 && in_force(&board, 1) == number
+                fits && in_force(&board, 0) == Some(5) && in_force(&board, 1) == Some(number)
             ),
             Err(refusal) => assert!(rt; !fits && is_set_up(refusal)),
         }
     }
 }
 
-// The number in force at a place, or a million, which is none.
-fn in_force<B: Board>(board: &B, place: u32) -> u32 {
-    let Some(place) = Place::new(place) else {
-        return 1_000_000;
-    };
-    match board.in_force(place) {
-        Some(number) => number.value(),
-        None => 1_000_000,
-    }
+// The number in force at a place.
+fn in_force<B: Board>(board: &B, place: u32) -> Option<u32> {
+    let place = Place::new(place)?;
+    board.in_force(place).map(KeyNumber::value)
 }

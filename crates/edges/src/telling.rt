@@ -10,9 +10,7 @@ fn seats_and_quorums_grow_with_the_faults(rt: HostRuntime) -> Result<(), Fail> {
     // faults, seats, and how many of them are a quorum
     let table = [(1, 4, 3), (2, 7, 5), (3, 10, 7), (4, 13, 9), (5, 16, 11)];
     for &(faults, seats, quorum) in &table {
-        let Ok(sizes) = Sizes::new(faults, 1) else {
-            return Err(Fail::new("no sizes"));
-        };
+        let sizes = Sizes::new(faults, 1).map_err(|_| "no sizes")?;
         assert!(rt; sizes.seats() == seats && sizes.quorum() == quorum);
     }
     Ok(())
@@ -36,9 +34,7 @@ fn leaders_take_turns(rt: HostRuntime) -> Result<(), Fail> {
     let first = Change::new(1).ok_or("no change")?;
     let last = Change::new(255).ok_or("no change")?;
     for &(faults, view, seat) in &table {
-        let Ok(sizes) = Sizes::new(faults, 8) else {
-            return Err(Fail::new("no sizes"));
-        };
+        let sizes = Sizes::new(faults, 8).map_err(|_| "no sizes")?;
         assert!(rt; sizes.leader(first, View::new(view)).number() == seat);
         assert!(rt; sizes.leader(last, View::new(view)).number() == seat);
     }
@@ -47,9 +43,7 @@ fn leaders_take_turns(rt: HostRuntime) -> Result<(), Fail> {
 
 #[test]
 fn parties_of_each_sort_have_numbers_of_their_own(rt: HostRuntime) -> Result<(), Fail> {
-    let Ok(sizes) = Sizes::new(5, 8) else {
-        return Err(Fail::new("no sizes"));
-    };
+    let sizes = Sizes::new(5, 8).map_err(|_| "no sizes")?;
     let seat = sizes.seat(15).ok_or("no seat")?;
     let first = Place::new(0).ok_or("no place")?;
     let last = Place::new(7).ok_or("no place")?;

@@ -5,6 +5,11 @@ ghost use Rattle.letters.specs.Sorts.{stands};
 // The fields that every letter has: kind, change, sender and seal.
 pub const COMMON: u16 = (1 << 0) + (1 << 1) + (1 << 2) + (1 << 12);
 
+// How many fields there are, and so many bits.
+pub const FIELDS: u8 = 13;
+
+pub const KIND_BIT: u8 = 0;
+
 // The number of a field's bit, where a letter of the kind may have the field or not.
 pub const NUMBER_BIT: u8 = 5;
 

@@ -3,7 +3,7 @@ ghost use Rattle.std.specs.Prelude.{◌≡◌, ℕ, ◌+◌, ◌-◌, ◌*◌, �
 ghost use Rattle.reading.specs.Fields as Fields;
 ghost use Rattle.reading.specs.Reads.{Reads};
 
-use letters::maps::stands;
+use letters::maps::{FIELDS, KIND_BIT, stands};
 use letters::sorts::{Answer, Digest, Kind, Seal, SeatSet};
 use terms::numbers::{Change, KeyNumber, Place, Seat, View};
 use terms::parties::{Outcome, Party};
@@ -112,7 +112,7 @@ impl Reader<'_> {
     {
         let at = self.at;
         let map = self.take_two()?;
-        if map < 8192 && stands(map, 0) {
+        if map < 1 << FIELDS && stands(map, KIND_BIT) {
             Ok(map)
         } else {
             Err(refusal(FormCause::UnfitMap, at))
