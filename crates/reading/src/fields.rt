@@ -10,7 +10,8 @@ use terms::parties::{Outcome, Party};
 use terms::refusals::{Cause, FormCause, Refusal};
 use terms::sizes::Sizes;
 
-// The bytes of a letter, and how far they are read.
+// The bytes of a letter, and how far they are read. The offset, and not the bytes that are left: a refusal and a
+// part of the letter point to it.
 #[derive(Drop)]
 pub(crate) struct Reader<'a> {
     pub(crate) bytes: &'a [u8],

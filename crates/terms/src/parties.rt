@@ -15,7 +15,8 @@ pub enum Party {
     Office,
 }
 
-// What a change comes to: every door keeps its number, or all take this one.
+// What a change comes to: every door keeps its number, or all take this one. No option of a number, which would
+// be read as an order's (none cancels) or as a result that is not known yet.
 #[derive(Clone, Copy, Debug, PartialEq, Eq)]
 pub enum Outcome {
     Keep,
