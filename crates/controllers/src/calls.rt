@@ -13,10 +13,10 @@ use crate::controller::{Controller, Draft, Proposal};
 use crate::views::empty_round;
 use kept::keep;
 use letters::bodies::{Body, Letter};
-use letters::certificates::{Basis, Certificate};
 use letters::sorts::Seal;
 use posting::few::{AtMostTwo, Posted};
 use posting::finish::{answer, finish};
+use posting::replies::CallResult;
 use posting::room::{refused_by_rule, require_room};
 use schemes::scheme::Scheme;
 use seals::clearing::clear;
@@ -65,7 +65,7 @@ impl Controller {
         scheme: &S,
         scratch: &mut [u8],
         out: &mut [u8],
-    ) -> Result<AtMostTwo<usize>, Refusal>
+    ) -> CallResult
         ensures { Calls.Goes (S.Scheme.holds scheme.now) change self.old out.old scratch.old (λ _. Calls.pointed 0 (Rules.ring_rule self.old)) (Calls.went result self.new out.new scratch.new) }
     {
         require_room(out.len(), scratch.len())?;
@@ -97,7 +97,7 @@ impl Controller {
         draft: Draft,
         scratch: &mut [u8],
         out: &mut [u8],
-    ) -> Result<AtMostTwo<usize>, Refusal>
+    ) -> CallResult
         requires { Calls.has_room out.old scratch.old ≡ true }
         ensures { Calls.Goes (S.Scheme.holds scheme.now) change self.old out.old scratch.old (λ own. Calls.pointed 0 (Rules.proposed self.old draft own)) (Calls.went result self.new out.new scratch.new) }
     {
@@ -128,7 +128,7 @@ impl Controller {
         scheme: &S,
         scratch: &mut [u8],
         out: &mut [u8],
-    ) -> Result<AtMostTwo<usize>, Refusal>
+    ) -> CallResult
         ensures { Calls.Goes (S.Scheme.holds scheme.now) change self.old out.old scratch.old (λ own. Calls.pointed 0 (Rules.propose_rule sizes change self.old own)) (Calls.went result self.new out.new scratch.new) }
     {
         require_room(out.len(), scratch.len())?;
@@ -150,7 +150,7 @@ impl Controller {
         opened: Opened,
         scratch: &mut [u8],
         out: &mut [u8],
-    ) -> Result<AtMostTwo<usize>, Refusal>
+    ) -> CallResult
         ensures { Calls.Goes (S.Scheme.holds scheme.now) change self.old out.old scratch.old (λ own. Calls.pointed (party_number (sender_of (kept (shown opened.entry.letter)).body)) (Letters.letter_rule sizes change self.old (kept (shown opened.entry.letter)) own)) (Calls.went result self.new out.new scratch.new) }
     {
         let letter = opened.spend();

@@ -10,12 +10,12 @@ ghost use Rattle.controllers.specs.Rules as Rules;
 
 use crate::controller::{Controller, Proposal};
 use ballots::Pair;
-use letters::bodies::{Body, Letter};
-use letters::certificates::{Basis, Certificate};
+use letters::bodies::{Body, WholeBody, WholeLetter};
 use letters::senders::sender_of;
 use letters::sorts::{Seal, SeatSet};
 use posting::few::{AtMostTwo, Posted};
 use posting::finish::{answer, finish};
+use posting::replies::{CallResult, Reply};
 use posting::room::{refused_by_rule, require_room};
 use schemes::scheme::Scheme;
 use seals::clearing::clear;
@@ -25,7 +25,7 @@ use terms::refusals::{Refusal, RuleCause};
 use terms::sizes::Sizes;
 use writing::certificates::certificate_digest;
 
-fn sender_number(body: &Body<Certificate, Basis>) -> usize
+fn sender_number(body: &WholeBody) -> usize
     ensures { result ≡ party_number (sender_of body.now) }
 {
     sender_of(body).number() as usize
@@ -42,12 +42,7 @@ impl Controller {
     }
 
     // All kinds of letters but proposals.
-    fn take_plain(
-        &mut self,
-        sizes: Sizes,
-        body: Body<Certificate, Basis>,
-        seal: Seal,
-    ) -> Result<AtMostTwo<Body<Certificate, Basis>>, RuleCause>
+    fn take_plain(&mut self, sizes: Sizes, body: WholeBody, seal: Seal) -> Reply
         ensures { Rules.Follows self.old (Letters.plain_rule sizes self.old body seal) result self.new }
     {
         match body {
@@ -85,11 +80,11 @@ impl Controller {
         sizes: Sizes,
         change: Change,
         scheme: &S,
-        letter: &Letter<Certificate, Basis>,
+        letter: &WholeLetter,
         sender: usize,
         scratch: &mut [u8],
         out: &mut [u8],
-    ) -> Result<AtMostTwo<usize>, Refusal>
+    ) -> CallResult
         requires { Calls.has_room out.old scratch.old ≡ true }
         ensures { Calls.Goes (S.Scheme.holds scheme.now) change self.old out.old scratch.old (λ _. Calls.pointed sender (Letters.plain_rule sizes self.old letter.now.body letter.now.seal)) (Calls.went result self.new out.new scratch.new) }
     {
@@ -118,7 +113,7 @@ impl Controller {
         sender: usize,
         scratch: &mut [u8],
         out: &mut [u8],
-    ) -> Result<AtMostTwo<usize>, Refusal>
+    ) -> CallResult
         requires { Calls.has_room out.old scratch.old ≡ true }
         ensures { Calls.Goes (S.Scheme.holds scheme.now) change self.old out.old scratch.old (λ own. Calls.pointed sender (Rules.assenting self.old proposal own)) (Calls.went result self.new out.new scratch.new) }
     {
@@ -151,7 +146,7 @@ impl Controller {
         sender: usize,
         scratch: &mut [u8],
         out: &mut [u8],
-    ) -> Result<AtMostTwo<usize>, Refusal>
+    ) -> CallResult
         requires { Calls.has_room out.old scratch.old ≡ true }
         ensures { Calls.Goes (S.Scheme.holds scheme.now) change self.old out.old scratch.old (λ own. Calls.pointed sender (Rules.judged sizes change self.old view movers proposal own)) (Calls.went result self.new out.new scratch.new) }
     {
@@ -179,11 +174,11 @@ impl Controller {
         sizes: Sizes,
         change: Change,
         scheme: &S,
-        letter: &Letter<Certificate, Basis>,
+        letter: &WholeLetter,
         sender: usize,
         scratch: &mut [u8],
         out: &mut [u8],
-    ) -> Result<AtMostTwo<usize>, Refusal>
+    ) -> CallResult
         requires { Calls.has_room out.old scratch.old ≡ true }
         ensures { Calls.Goes (S.Scheme.holds scheme.now) change self.old out.old scratch.old (λ own. Calls.pointed sender (Letters.body_rule sizes change self.old letter.now.body letter.now.seal own)) (Calls.went result self.new out.new scratch.new) }
     {
@@ -215,10 +210,10 @@ impl Controller {
         sizes: Sizes,
         change: Change,
         scheme: &S,
-        letter: Letter<Certificate, Basis>,
+        letter: WholeLetter,
         scratch: &mut [u8],
         out: &mut [u8],
-    ) -> Result<AtMostTwo<usize>, Refusal>
+    ) -> CallResult
         ensures { Calls.Goes (S.Scheme.holds scheme.now) change self.old out.old scratch.old (λ own. Calls.pointed (party_number (sender_of letter.body)) (Letters.letter_rule sizes change self.old letter own)) (Calls.went result self.new out.new scratch.new) }
     {
         require_room(out.len(), scratch.len())?;

@@ -6,10 +6,11 @@ ghost use Rattle.posting.specs.Replies as Replies;
 use crate::controller::{Controller, Draft, MoveRecord, Proposal, Round};
 use crate::counts::{all_recorded, choose, covers, pick};
 use ballots::{Ballot, Pair, entry, put, tally};
-use letters::bodies::Body;
+use letters::bodies::{Body, WholeBody};
 use letters::certificates::{Basis, Certificate};
 use letters::sorts::{Digest, Seal, SeatSet};
 use posting::few::AtMostTwo;
+use posting::replies::{Bodies, Reply};
 use terms::numbers::{Change, Seat, View};
 use terms::parties::Outcome;
 use terms::refusals::RuleCause;
@@ -213,7 +214,7 @@ impl Controller {
         Ok(())
     }
 
-    fn confirm_body(&self, pair: Pair) -> Body<Certificate, Basis>
+    fn confirm_body(&self, pair: Pair) -> WholeBody
         ensures { result ≡ Rules.confirm_body self.now pair }
     {
         Body::Confirm {
@@ -224,7 +225,7 @@ impl Controller {
         }
     }
 
-    fn result_body(&self, pair: Pair) -> Body<Certificate, Basis>
+    fn result_body(&self, pair: Pair) -> WholeBody
         ensures { result ≡ Rules.result_body self.now pair }
     {
         Body::Result {
@@ -251,7 +252,7 @@ impl Controller {
 
     // With 2f assents recorded the controller confirms.
     #[tactic(auto, unfolding(crate::specs::Rules::confirming))]
-    fn confirming(&mut self, sizes: Sizes, pair: Pair) -> AtMostTwo<Body<Certificate, Basis>>
+    fn confirming(&mut self, sizes: Sizes, pair: Pair) -> Bodies
         ensures { Rules.Follows self.old (Rules.confirming sizes self.old pair self.old.round.proposal) (Ok result) self.new }
     {
         let Some(held) = self.round.proposal else {
@@ -274,7 +275,7 @@ impl Controller {
         view: View,
         pair: Pair,
         seal: Seal,
-    ) -> Result<AtMostTwo<Body<Certificate, Basis>>, RuleCause>
+    ) -> Reply
         ensures { Rules.Follows self.old (Rules.assent_rule sizes self.old seat view pair seal) result self.new }
     {
         self.may_assent(sizes, seat, view, pair)?;
@@ -296,13 +297,7 @@ impl Controller {
     }
 
     // A controller confirms the held proposal.
-    pub(crate) fn take_confirm(
-        &mut self,
-        sizes: Sizes,
-        seat: Seat,
-        view: View,
-        pair: Pair,
-    ) -> Result<AtMostTwo<Body<Certificate, Basis>>, RuleCause>
+    pub(crate) fn take_confirm(&mut self, sizes: Sizes, seat: Seat, view: View, pair: Pair) -> Reply
         ensures { Rules.Follows self.old (Rules.confirm_rule sizes self.old seat view pair) result self.new }
     {
         self.may_confirm(seat, view, pair)?;
@@ -315,7 +310,7 @@ impl Controller {
     }
 
     // Enters a view: the round is forgotten, the own record stored with the own basis.
-    fn enter_view(&mut self, view: View) -> AtMostTwo<Body<Certificate, Basis>>
+    fn enter_view(&mut self, view: View) -> Bodies
         ensures answer { Ok result ≡ Replies.sends (Rules.enter_view self.old view) }
         ensures unit { self.new ≡ Rules.entered self.old view }
     {
@@ -364,7 +359,7 @@ impl Controller {
         seat: Seat,
         view: View,
         basis: Option<Basis>,
-    ) -> Result<AtMostTwo<Body<Certificate, Basis>>, RuleCause>
+    ) -> Reply
         ensures { Rules.Follows self.old (Rules.move_rule sizes self.old seat view basis) result self.new }
     {
         self.may_move(seat, view, &basis)?;
@@ -380,7 +375,7 @@ impl Controller {
     }
 
     // The view has lasted too long: the controller enters the next one.
-    pub(crate) fn take_ring(&mut self) -> Result<AtMostTwo<Body<Certificate, Basis>>, RuleCause>
+    pub(crate) fn take_ring(&mut self) -> Reply
         ensures { Rules.Follows self.old (Rules.ring_rule self.old) result self.new }
     {
         let view = self.view.number();
