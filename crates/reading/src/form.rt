@@ -16,6 +16,9 @@ use terms::numbers::{Change, Seat, View};
 use terms::refusals::{FormCause, Refusal};
 use terms::sizes::Sizes;
 
+// What a letter says, or a refusal.
+type BodyResult<'a> = Result<ReadBody<'a>, Refusal>;
+
 // A map fits a kind if the kind's bits stand, and no others but those that may.
 fn fits(kind: Kind, map: u16) -> bool
     ensures { result ≡ Form.fits kind map }
@@ -58,14 +61,14 @@ fn proposal_view_fits(sizes: Sizes, change: Change, view: View, seat: Seat, move
 }
 
 impl<'a> Reader<'a> {
-    fn take_enrol(&mut self, sizes: Sizes) -> Result<ReadBody<'a>, Refusal>
+    fn take_enrol(&mut self, sizes: Sizes) -> BodyResult<'a>
         ensures { ReadsBody (Form.enrol_body sizes) self.old self.new result }
     {
         let sender = self.take_lock(sizes)?;
         Ok(Body::Enrol { sender })
     }
 
-    fn take_receipt(&mut self, sizes: Sizes) -> Result<ReadBody<'a>, Refusal>
+    fn take_receipt(&mut self, sizes: Sizes) -> BodyResult<'a>
         ensures { ReadsBody (Form.receipt_body sizes) self.old self.new result }
     {
         let sender = self.take_controller(sizes)?;
@@ -73,7 +76,7 @@ impl<'a> Reader<'a> {
         Ok(Body::Receipt { sender, place })
     }
 
-    fn take_order(&mut self, sizes: Sizes, map: u16) -> Result<ReadBody<'a>, Refusal>
+    fn take_order(&mut self, sizes: Sizes, map: u16) -> BodyResult<'a>
         ensures { ReadsBody (Form.order_body sizes map) self.old self.new result }
     {
         self.take_office(sizes)?;
@@ -81,7 +84,7 @@ impl<'a> Reader<'a> {
         Ok(Body::Order { number })
     }
 
-    fn take_summons(&mut self, sizes: Sizes) -> Result<ReadBody<'a>, Refusal>
+    fn take_summons(&mut self, sizes: Sizes) -> BodyResult<'a>
         ensures { ReadsBody (Form.summons_body sizes) self.old self.new result }
     {
         let sender = self.take_controller(sizes)?;
@@ -94,7 +97,7 @@ impl<'a> Reader<'a> {
         })
     }
 
-    fn take_vote(&mut self, sizes: Sizes) -> Result<ReadBody<'a>, Refusal>
+    fn take_vote(&mut self, sizes: Sizes) -> BodyResult<'a>
         ensures { ReadsBody (Form.vote_body sizes) self.old self.new result }
     {
         let sender = self.take_lock(sizes)?;
@@ -107,12 +110,7 @@ impl<'a> Reader<'a> {
         })
     }
 
-    fn take_proposal(
-        &mut self,
-        sizes: Sizes,
-        change: Change,
-        map: u16,
-    ) -> Result<ReadBody<'a>, Refusal>
+    fn take_proposal(&mut self, sizes: Sizes, change: Change, map: u16) -> BodyResult<'a>
         ensures { ReadsBody (Form.proposal_body sizes change map) self.old self.new result }
     {
         let sender = self.take_controller(sizes)?;
@@ -132,12 +130,7 @@ impl<'a> Reader<'a> {
         })
     }
 
-    fn take_assent(
-        &mut self,
-        sizes: Sizes,
-        change: Change,
-        map: u16,
-    ) -> Result<ReadBody<'a>, Refusal>
+    fn take_assent(&mut self, sizes: Sizes, change: Change, map: u16) -> BodyResult<'a>
         ensures { ReadsBody (Form.assent_body sizes change map) self.old self.new result }
     {
         let sender = self.take_controller(sizes)?;
@@ -154,7 +147,7 @@ impl<'a> Reader<'a> {
         })
     }
 
-    fn take_confirm(&mut self, sizes: Sizes, map: u16) -> Result<ReadBody<'a>, Refusal>
+    fn take_confirm(&mut self, sizes: Sizes, map: u16) -> BodyResult<'a>
         ensures { ReadsBody (Form.confirm_body sizes map) self.old self.new result }
     {
         let sender = self.take_controller(sizes)?;
@@ -169,7 +162,7 @@ impl<'a> Reader<'a> {
         })
     }
 
-    fn take_result(&mut self, sizes: Sizes, map: u16) -> Result<ReadBody<'a>, Refusal>
+    fn take_result(&mut self, sizes: Sizes, map: u16) -> BodyResult<'a>
         ensures { ReadsBody (Form.result_body sizes map) self.old self.new result }
     {
         let sender = self.take_controller(sizes)?;
@@ -177,7 +170,7 @@ impl<'a> Reader<'a> {
         Ok(Body::Result { sender, outcome })
     }
 
-    fn take_move(&mut self, sizes: Sizes, change: Change, map: u16) -> Result<ReadBody<'a>, Refusal>
+    fn take_move(&mut self, sizes: Sizes, change: Change, map: u16) -> BodyResult<'a>
         ensures { ReadsBody (Form.move_body sizes change map) self.old self.new result }
     {
         let sender = self.take_controller(sizes)?;
@@ -198,13 +191,7 @@ impl<'a> Reader<'a> {
         })
     }
 
-    fn take_body(
-        &mut self,
-        sizes: Sizes,
-        change: Change,
-        map: u16,
-        kind: Kind,
-    ) -> Result<ReadBody<'a>, Refusal>
+    fn take_body(&mut self, sizes: Sizes, change: Change, map: u16, kind: Kind) -> BodyResult<'a>
         ensures { ReadsBody (Form.body_field sizes change map kind) self.old self.new result }
     {
         match kind {
