@@ -78,14 +78,8 @@ impl Controller {
         choose(&self.records, movers, self.view)
     }
 
-    fn may_choose(
-        &self,
-        outcome: Outcome,
-        certificate: &Certificate,
-        digest: Digest,
-        choice: Option<Basis>,
-    ) -> Result<(), RuleCause>
-        ensures { result ≡ Rules.may_choose self.now outcome certificate.now digest choice }
+    fn may_choose(&self, proposal: &Proposal, choice: Option<Basis>) -> Result<(), RuleCause>
+        ensures { result ≡ Rules.may_choose self.now proposal.now.outcome proposal.now.certificate proposal.now.digest choice }
     {
         match choice {
             Some(basis) => {
@@ -93,13 +87,13 @@ impl Controller {
                     outcome: basis.outcome,
                     digest: certificate_digest(&basis.certificate),
                 };
-                if !(Pair { outcome, digest }).agrees(&chosen) {
+                if !proposal.pair().agrees(&chosen) {
                     return Err(RuleCause::AgainstChoice);
                 }
                 Ok(())
             }
             None => {
-                if !covers(&self.registered, &certificate.enrolled) {
+                if !covers(&self.registered, &proposal.certificate.enrolled) {
                     return Err(RuleCause::PlaceLeftOut);
                 }
                 Ok(())
@@ -114,17 +108,15 @@ impl Controller {
         sizes.leader(change, self.view) == self.seat
     }
 
-    pub(crate) fn may_hold(
+    fn may_hold(
         &self,
         sizes: Sizes,
         change: Change,
         view: View,
-        outcome: Outcome,
-        certificate: &Certificate,
-        digest: Digest,
         movers: SeatSet,
+        proposal: &Proposal,
     ) -> Result<(), RuleCause>
-        ensures { result ≡ Rules.may_hold sizes change self.now view outcome certificate.now digest movers }
+        ensures { result ≡ Rules.may_hold sizes change self.now view proposal.now.outcome proposal.now.certificate proposal.now.digest movers }
     {
         if view != self.view {
             return Err(RuleCause::OtherView);
@@ -135,13 +127,13 @@ impl Controller {
         if self.round.proposal.is_some() {
             return Err(RuleCause::Repeated);
         }
-        if !certificate.result().agrees(&outcome) {
+        if !proposal.certificate.result().agrees(&proposal.outcome) {
             return Err(RuleCause::FalseResult);
         }
         if !all_recorded(&self.records, movers, self.view) {
             return Err(RuleCause::MoversMissing);
         }
-        self.may_choose(outcome, certificate, digest, self.choice(movers))
+        self.may_choose(proposal, self.choice(movers))
     }
 
     // The proposal is held, and its order if none is.
@@ -152,13 +144,36 @@ impl Controller {
         self.round.proposal = Some(proposal);
     }
 
-    // A proposal of the leader: held, and the own assent recorded.
-    pub(crate) fn hold_and_assent(&mut self, proposal: Proposal, own: Seal)
-        ensures { self.new ≡ Rules.held self.old proposal own }
+    // The leader proposes: the proposal is held, and assented to. The own assent is recorded once
+    // it has its seal.
+    pub(crate) fn take_proposal(
+        &mut self,
+        sizes: Sizes,
+        change: Change,
+        view: View,
+        movers: SeatSet,
+        proposal: Proposal,
+    ) -> Reply
+        ensures { Rules.Follows self.old (Rules.holding sizes change self.old view movers proposal) result self.new }
     {
+        self.may_hold(sizes, change, view, movers, &proposal)?;
         self.hold(proposal);
-        let seat = self.seat;
-        self.round.record_assent(seat, proposal.pair(), own);
+        Ok(AtMostTwo::One(Body::Assent {
+            sender: self.seat,
+            view: self.view,
+            outcome: proposal.outcome,
+            digest: proposal.digest,
+        }))
+    }
+
+    // The own assent to the held proposal, with its seal.
+    pub(crate) fn record_own_assent(&mut self, own: Seal)
+        ensures { self.new ≡ Rules.seconded self.old own self.old.round.proposal }
+    {
+        if let Some(held) = self.round.proposal {
+            let seat = self.seat;
+            self.round.record_assent(seat, held.pair(), own);
+        }
     }
 
     fn confirmed_here(&self) -> bool
