@@ -83,6 +83,7 @@ fn post_alone<S: Scheme>(
 }
 
 // The second letter goes into the tail of the output buffer, after the first.
+#[tactic(auto, using(crate::proofs::Writes::cleared_twice))]
 fn post_two<S: Scheme>(
     scheme: &S,
     change: Change,
