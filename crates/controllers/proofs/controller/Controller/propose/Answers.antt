@@ -1,15 +1,13 @@
 use Rattle.std.proofs.Common.{ap, ◌∙◌, rules}
 use Rattle.posting.specs.Posting.{seals_in}
-use Rattle.posting.proofs.Goes.{goes_nowhere, goes-copied, goes_along, has_room_lem, has_no_room}
+use Rattle.posting.proofs.Goes.{goes_nowhere, goes-copied, goes_along}
 use Rattle.posting.specs.Calls.{pointed}
 use Rattle.controllers.specs.Rules.{proposing}
 use Rattle.controllers.proofs.Own.{proposing_sends}
 use Rattle.controllers.proofs.controller.Controller.propose.Goals as goal
 
 pub returns-in_err-require_room : goal.returns-in_err-require_room
-returns-in_err-require_room g c =
-    goes_nowhere _ c.args.change c.args.self.now c.args.out.now c.args.scratch.now _ _
-    (has_no_room c.args.out.now c.args.scratch.now _ c.in_err-require_room.ensures) (search rules)
+returns-in_err-require_room g c = goes_nowhere _ _ _ c.args.out.now c.args.scratch.now _ _ _ c.in_err-require_room.ensures (search rules)
 
 pub returns : goal.returns
 returns g c =
@@ -18,6 +16,6 @@ returns g c =
     let draft = c.may_propose-draft.result in
     goes_along (λ z. ap (λ x. pointed 0 (proposing u x z)) c.may_propose-draft.ensures)
     (goes-copied c.args.change 0 u c.args.out.now c.args.scratch.now _ (λ z. proposing u draft z) _ a _ _ _ _
-    (has_room_lem c.args.out.now c.args.scratch.now _ c.in_ok-require_room.ensures)
+    c.in_ok-require_room.ensures
     (c.proposing-reply.ensures ∙ proposing_sends u (seals_in a).first draft) c.keep_proposal.ensures
     c.finish-posted.ensures.ends c.finish-posted.ensures.words c.finish-posted.ensures.sealed c.answer.ensures)

@@ -1,7 +1,7 @@
 use Rattle.std.proofs.Common.{ap, ◌∙◌, rules}
 use Rattle.posting.specs.Calls.{Ending, ended, keeping}
 use Rattle.posting.specs.Posting.{seals_in}
-use Rattle.posting.proofs.Goes.{goes_nowhere, goes-copied, has_room_lem, has_no_room}
+use Rattle.posting.proofs.Goes.{goes_nowhere, goes-copied}
 use Rattle.terms.specs.Parties.{party_number}
 use Rattle.letters.specs.Senders.{sender_of}
 use Rattle.controllers.specs.Letters.{letter_rule, own_assent}
@@ -9,9 +9,7 @@ use Rattle.controllers.proofs.Own.{letter_sends, letter_keeps}
 use Rattle.controllers.proofs.controller.Controller.serve.Goals as goal
 
 pub returns-in_err-require_room : goal.returns-in_err-require_room
-returns-in_err-require_room g c =
-    goes_nowhere _ c.args.change c.args.self.now c.args.out.now c.args.scratch.now _ _
-    (has_no_room c.args.out.now c.args.scratch.now _ c.in_err-require_room.ensures) (search rules)
+returns-in_err-require_room g c = goes_nowhere _ _ _ c.args.out.now c.args.scratch.now _ _ _ c.in_err-require_room.ensures (search rules)
 
 pub returns : goal.returns
 returns g c =
@@ -28,7 +26,7 @@ returns g c =
     let ends = c.finish-posted.ensures.ends ∙ ap (λ n. ended t n c.take_letter-reply.result zs out scratch) c.sender_number-sender.ensures in
     let answer = ap (λ (x : Ending). x.answer) ends ∙ ap (λ x. (ended t from x zs out scratch).answer) reply.answer in
     goes-copied t from u out scratch _ (λ z. letter_rule c.args.sizes t u l z) _ a _ _ _ _
-    (has_room_lem out scratch _ c.in_ok-require_room.ensures)
+    c.in_ok-require_room.ensures
     (reply.answer ∙ letter_sends c.args.sizes t u own l)
     (c.store_taken.ensures ∙ ap (λ x. keeping u (own_assent l.body x own) a) reply.unit ∙ letter_keeps c.args.sizes t u own from zs out scratch a l answer)
     ends c.finish-posted.ensures.words c.finish-posted.ensures.sealed c.answer.ensures
