@@ -60,6 +60,7 @@ impl Controller {
     }
 
     // The view has lasted too long.
+    #[tactic(auto, using(posting::proofs::Goes::goes_nowhere))]
     pub fn ring<S: Scheme>(
         &mut self,
         change: Change,
@@ -106,6 +107,7 @@ impl Controller {
     }
 
     // The leader of the view proposes.
+    #[tactic(auto, using(posting::proofs::Goes::goes_nowhere))]
     pub fn propose<S: Scheme>(
         &mut self,
         sizes: Sizes,

@@ -113,6 +113,7 @@ impl Controller {
 
     // Serves a letter that was opened, or refuses it. Works on a copy, which is stored once all
     // that is to be sent is posted.
+    #[tactic(auto, using(posting::proofs::Goes::goes_nowhere))]
     pub(crate) fn serve<S: Scheme>(
         &mut self,
         sizes: Sizes,

@@ -48,6 +48,7 @@ impl Office {
     }
 
     // Orders a key number, or a cancel.
+    #[tactic(auto, using(posting::proofs::Goes::goes_nowhere))]
     fn order_key<S: Scheme>(
         &mut self,
         change: Change,
@@ -64,6 +65,7 @@ impl Office {
     }
 
     // Orders a number for all doors; without a number, that the change is cancelled.
+    #[tactic(auto, using(posting::proofs::Goes::goes_nowhere))]
     pub fn order<S: Scheme>(
         &mut self,
         change: Change,

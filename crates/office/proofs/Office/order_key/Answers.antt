@@ -1,11 +1,7 @@
-use Rattle.std.proofs.Common.{rules}
-use Rattle.posting.proofs.Goes.{goes_nowhere, goes-in-place}
+use Rattle.posting.proofs.Goes.{goes-in-place}
 use Rattle.office.specs.Rules.{order_rule}
 use Rattle.office.proofs.Fits.{order_fits_lem}
 use Rattle.office.proofs.Office.order_key.Goals as goal
-
-pub returns-in_err-require_room : goal.returns-in_err-require_room
-returns-in_err-require_room g c = goes_nowhere _ _ _ c.args.out.now c.args.scratch.now _ _ _ c.in_err-require_room.ensures (search rules)
 
 pub returns : goal.returns
 returns g c =

@@ -1,13 +1,10 @@
-use Rattle.std.proofs.Common.{ap, ◌∙◌, rules}
+use Rattle.std.proofs.Common.{ap, ◌∙◌}
 use Rattle.posting.specs.Posting.{seals_in}
-use Rattle.posting.proofs.Goes.{goes_nowhere, goes-copied, goes_along}
+use Rattle.posting.proofs.Goes.{goes-copied, goes_along}
 use Rattle.posting.specs.Calls.{pointed}
 use Rattle.controllers.specs.Rules.{proposing}
 use Rattle.controllers.proofs.Own.{proposing_sends}
 use Rattle.controllers.proofs.controller.Controller.propose.Goals as goal
-
-pub returns-in_err-require_room : goal.returns-in_err-require_room
-returns-in_err-require_room g c = goes_nowhere _ _ _ c.args.out.now c.args.scratch.now _ _ _ c.in_err-require_room.ensures (search rules)
 
 pub returns : goal.returns
 returns g c =

@@ -1,11 +1,8 @@
-use Rattle.std.proofs.Common.{ap, ◌∙◌, rules}
+use Rattle.std.proofs.Common.{ap, ◌∙◌}
 use Rattle.posting.specs.Calls.{keeping}
-use Rattle.posting.proofs.Goes.{goes_nowhere, goes-copied}
+use Rattle.posting.proofs.Goes.{goes-copied}
 use Rattle.controllers.specs.Rules.{ring_rule}
 use Rattle.controllers.proofs.controller.Controller.ring.Goals as goal
-
-pub returns-in_err-require_room : goal.returns-in_err-require_room
-returns-in_err-require_room g c = goes_nowhere _ _ _ c.args.out.now c.args.scratch.now _ _ _ c.in_err-require_room.ensures (search rules)
 
 pub returns : goal.returns
 returns g c =

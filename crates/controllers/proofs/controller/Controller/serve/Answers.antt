@@ -1,15 +1,12 @@
-use Rattle.std.proofs.Common.{ap, ◌∙◌, rules}
+use Rattle.std.proofs.Common.{ap, ◌∙◌}
 use Rattle.posting.specs.Calls.{Ending, ended, keeping}
 use Rattle.posting.specs.Posting.{seals_in}
-use Rattle.posting.proofs.Goes.{goes_nowhere, goes-copied}
+use Rattle.posting.proofs.Goes.{goes-copied}
 use Rattle.terms.specs.Parties.{party_number}
 use Rattle.letters.specs.Senders.{sender_of}
 use Rattle.controllers.specs.Letters.{letter_rule, own_assent}
 use Rattle.controllers.proofs.Own.{letter_sends, letter_keeps}
 use Rattle.controllers.proofs.controller.Controller.serve.Goals as goal
-
-pub returns-in_err-require_room : goal.returns-in_err-require_room
-returns-in_err-require_room g c = goes_nowhere _ _ _ c.args.out.now c.args.scratch.now _ _ _ c.in_err-require_room.ensures (search rules)
 
 pub returns : goal.returns
 returns g c =
