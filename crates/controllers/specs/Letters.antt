@@ -11,9 +11,11 @@ use Rattle.letters.specs.declared.certificates.Certificate.{Certificate}
 use Rattle.letters.specs.declared.bodies.Body.{Body}
 use Rattle.letters.specs.declared.bodies.Body.TheVariants.{Enrol, Receipt, Order, Summons, Vote, Proposal, Assent, Confirm, Result, Move}
 use Rattle.letters.specs.declared.bodies.Letter.{Letter}
+use Rattle.letters.specs.Certificates.{certificate_digest}
+use Rattle.letters.specs.Sorts.{seal}
 use Rattle.posting.specs.Replies.{refused}
 use Rattle.controllers.specs.declared.controller.Controller.{Controller}
-use Rattle.controllers.specs.Rules.{Reply, pair, empty_round, enrol_rule, order_rule, vote_rule, proposal_rule, assent_rule, confirm_rule, move_rule}
+use Rattle.controllers.specs.Rules.{Reply, pair, empty_round, enrol_rule, order_rule, vote_rule, proposal, holding, seconded, proposal_rule, assent_rule, confirm_rule, move_rule}
 
 -- receipts, summonses and results are for locks: 8; `z` is the letter's seal, `own` the one that the controller puts under its own assent
 abbrev pub body_rule : Sizes → Change → Controller → Body Certificate Basis → Seal → Seal → Reply
@@ -46,15 +48,17 @@ fresh_controller s = record {
   result = None;
 }
 
--- the rules for all kinds but proposals, which need no seal of the controller's own
-abbrev pub plain_rule : Sizes → Controller → Body Certificate Basis → Seal → Reply
-plain_rule sizes u (Enrol p) z = enrol_rule u p z
-plain_rule sizes u (Receipt s p) z = refused R.OtherUnit
-plain_rule sizes u (Order n) z = order_rule u n z
-plain_rule sizes u (Summons s n o) z = refused R.OtherUnit
-plain_rule sizes u (Vote p n a) z = vote_rule u p n a z
-plain_rule sizes u (Proposal s v x c m) z = refused R.OtherUnit
-plain_rule sizes u (Assent s v x d) z = assent_rule sizes u s v (pair x d) z
-plain_rule sizes u (Confirm s v x d) z = confirm_rule sizes u s v (pair x d)
-plain_rule sizes u (Result s x) z = refused R.OtherUnit
-plain_rule sizes u (Move s v b) z = move_rule sizes u s v b
+-- ---- in two steps: the own assent is recorded once it has its seal
+
+-- a letter's rule, but a proposal is only held
+abbrev pub taken : Sizes → Change → Controller → Body Certificate Basis → Seal → Reply
+taken sizes t u (Proposal s v x c m) z = holding sizes t u v m (proposal x c (certificate_digest c) z)
+taken sizes t u b z = body_rule sizes t u b z (seal 0)
+
+abbrev pub letter_taken : Sizes → Change → Controller → Letter Certificate Basis → Reply
+letter_taken sizes t u l = cond (not (l.change.0 == t.0)) (refused R.OtherChange) (taken sizes t u l.body l.seal)
+
+-- to a proposal, under the seal `own`
+abbrev pub own_assent : Body Certificate Basis → Controller → Seal → Controller
+own_assent (Proposal s v x c m) u own = seconded u own u.round.proposal
+own_assent b u own = u

@@ -186,6 +186,14 @@ judged sizes t u v m p own = passing (may_hold sizes t u v p.outcome p.certifica
 abbrev pub proposal_rule : Sizes → Change → Controller → View → Outcome → Certificate → SeatSet → Seal → Seal → Reply
 proposal_rule sizes t u v x c m z own = judged sizes t u v m (proposal x c (certificate_digest c) z) own
 
+-- in two steps: the proposal is held and assented to; the own assent is recorded once it has its seal
+abbrev pub holding : Sizes → Change → Controller → View → SeatSet → Proposal → Reply
+holding sizes t u v m p = passing (may_hold sizes t u v p.outcome p.certificate p.digest m) (served (hold u p) (One (B.Assent u.seat u.view p.outcome p.digest)))
+
+abbrev pub seconded : Controller → Seal → Option Proposal → Controller
+seconded u own None = u
+seconded u own (Some p) = with_round u (assented u.round u.seat (pair_of p) own)
+
 -- ---- taking the result
 
 -- the own confirm was sent in this view: the own basis is of this view

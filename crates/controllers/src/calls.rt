@@ -4,8 +4,10 @@ ghost use Rattle.terms.specs.Parties.{party_number};
 ghost use Rattle.reading.specs.Parts.{shown};
 ghost use Rattle.kept.specs.Kept.{kept};
 ghost use Rattle.letters.specs.Senders.{sender_of};
+ghost use Rattle.letters.specs.Sorts.{seal};
 ghost use Rattle.posting.specs.Calls as Calls;
 ghost use Rattle.posting.specs.Posting.{seals_in};
+ghost use Rattle.posting.specs.Replies as Replies;
 ghost use Rattle.controllers.specs.Letters as Letters;
 ghost use Rattle.controllers.specs.Rules as Rules;
 
@@ -13,17 +15,16 @@ use crate::controller::{Controller, Draft, Proposal};
 use crate::views::empty_round;
 use kept::keep;
 use letters::bodies::{Body, Letter};
-use letters::certificates::{Basis, Certificate};
 use letters::sorts::Seal;
 use posting::few::{AtMostTwo, Posted};
 use posting::finish::{answer, finish};
-use posting::room::{refused_by_rule, require_room};
+use posting::replies::{CallResult, Reply};
+use posting::room::require_room;
 use schemes::scheme::Scheme;
-use seals::clearing::clear;
 use seals::opening::Opened;
 use terms::numbers::{Change, Seat, View};
 use terms::parties::Outcome;
-use terms::refusals::Refusal;
+use terms::refusals::{Refusal, RuleCause};
 use terms::sizes::Sizes;
 use writing::certificates::certificate_digest;
 
@@ -59,13 +60,14 @@ impl Controller {
     }
 
     // The view has lasted too long.
+    #[tactic(auto, using(posting::proofs::Goes::goes_nowhere))]
     pub fn ring<S: Scheme>(
         &mut self,
         change: Change,
         scheme: &S,
         scratch: &mut [u8],
         out: &mut [u8],
-    ) -> Result<AtMostTwo<usize>, Refusal>
+    ) -> CallResult
         ensures { Calls.Goes (S.Scheme.holds scheme.now) change self.old out.old scratch.old (λ _. Calls.pointed 0 (Rules.ring_rule self.old)) (Calls.went result self.new out.new scratch.new) }
     {
         require_room(out.len(), scratch.len())?;
@@ -76,10 +78,25 @@ impl Controller {
         answer(posted)
     }
 
-    fn keep_proposal(&mut self, draft: Draft, posted: &Result<Posted, Refusal>)
-        ensures { self.new ≡ Calls.keeping self.old (Rules.drawn_up self.old draft (seals_in posted.now).first) posted.now }
+    // What is sent of a draft; without one, why not.
+    fn proposing(&self, draft: Result<Draft, RuleCause>) -> Reply
+        ensures { result ≡ Replies.sends (Rules.proposing self.now draft (seal 0)) }
     {
-        if let Ok(posted) = posted {
+        let draft = draft?;
+        Ok(AtMostTwo::One(Body::Proposal {
+            sender: self.seat,
+            view: self.view,
+            outcome: draft.outcome,
+            certificate: draft.certificate,
+            movers: draft.movers,
+        }))
+    }
+
+    // The own proposal is held, with the seal that it was sent under.
+    fn keep_proposal(&mut self, draft: Result<Draft, RuleCause>, posted: &Result<Posted, Refusal>)
+        ensures { self.new ≡ Calls.keeping self.old (Replies.after self.old (Rules.proposing self.old draft (seals_in posted.now).first)) posted.now }
+    {
+        if let (Ok(draft), Ok(posted)) = (draft, posted) {
             self.hold(Proposal {
                 outcome: draft.outcome,
                 digest: certificate_digest(&draft.certificate),
@@ -89,38 +106,8 @@ impl Controller {
         }
     }
 
-    // Sends a proposal and holds it; its seal is kept.
-    fn propose_draft<S: Scheme>(
-        &mut self,
-        change: Change,
-        scheme: &S,
-        draft: Draft,
-        scratch: &mut [u8],
-        out: &mut [u8],
-    ) -> Result<AtMostTwo<usize>, Refusal>
-        requires { Calls.has_room out.old scratch.old ≡ true }
-        ensures { Calls.Goes (S.Scheme.holds scheme.now) change self.old out.old scratch.old (λ own. Calls.pointed 0 (Rules.proposed self.old draft own)) (Calls.went result self.new out.new scratch.new) }
-    {
-        let proposal = Body::Proposal {
-            sender: self.seat,
-            view: self.view,
-            outcome: draft.outcome,
-            certificate: draft.certificate,
-            movers: draft.movers,
-        };
-        let posted = finish(
-            scheme,
-            change,
-            Ok(AtMostTwo::One(proposal)),
-            0,
-            scratch,
-            out,
-        );
-        self.keep_proposal(draft, &posted);
-        answer(posted)
-    }
-
     // The leader of the view proposes.
+    #[tactic(auto, using(posting::proofs::Goes::goes_nowhere))]
     pub fn propose<S: Scheme>(
         &mut self,
         sizes: Sizes,
@@ -128,17 +115,15 @@ impl Controller {
         scheme: &S,
         scratch: &mut [u8],
         out: &mut [u8],
-    ) -> Result<AtMostTwo<usize>, Refusal>
+    ) -> CallResult
         ensures { Calls.Goes (S.Scheme.holds scheme.now) change self.old out.old scratch.old (λ own. Calls.pointed 0 (Rules.propose_rule sizes change self.old own)) (Calls.went result self.new out.new scratch.new) }
     {
         require_room(out.len(), scratch.len())?;
-        match self.may_propose(sizes, change) {
-            Ok(draft) => self.propose_draft(change, scheme, draft, scratch, out),
-            Err(cause) => {
-                clear(scratch);
-                Err(refused_by_rule(cause, 0))
-            }
-        }
+        let draft = self.may_propose(sizes, change);
+        let reply = self.proposing(draft);
+        let posted = finish(scheme, change, reply, 0, scratch, out);
+        self.keep_proposal(draft, &posted);
+        answer(posted)
     }
 
     // Takes a letter that was opened: serves it, or refuses it.
@@ -150,7 +135,7 @@ impl Controller {
         opened: Opened,
         scratch: &mut [u8],
         out: &mut [u8],
-    ) -> Result<AtMostTwo<usize>, Refusal>
+    ) -> CallResult
         ensures { Calls.Goes (S.Scheme.holds scheme.now) change self.old out.old scratch.old (λ own. Calls.pointed (party_number (sender_of (kept (shown opened.entry.letter)).body)) (Letters.letter_rule sizes change self.old (kept (shown opened.entry.letter)) own)) (Calls.went result self.new out.new scratch.new) }
     {
         let letter = opened.spend();

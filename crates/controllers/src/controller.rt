@@ -18,6 +18,7 @@ pub struct Proposal {
 #[derive(Clone, Copy)]
 pub struct Round {
     pub(crate) proposal: Option<Proposal>,
+    // Two tables by seat: a basis takes the seals as they stand, the count of ballots the pairs.
     pub(crate) assents: [Option<Pair>; 16],
     pub(crate) seals: [Option<Seal>; 16],
     pub(crate) confirms: [Option<Pair>; 16],
@@ -30,7 +31,8 @@ pub struct MoveRecord {
     pub(crate) basis: Option<Basis>,
 }
 
-// Seats that were picked: their map, and how many they are.
+// Seats that were picked: their map, and how many they are. The count spares adding up the
+// bits at each seat.
 #[derive(Clone, Copy)]
 pub struct Picked {
     pub(crate) map: u16,
@@ -49,6 +51,7 @@ pub struct Draft {
 pub struct Controller {
     pub(crate) seat: Seat,
     pub(crate) view: View,
+    // Two tables by place: an order closes the first, and only then the second is filled.
     pub(crate) registered: [Option<Seal>; 8],
     pub(crate) order: Option<Order>,
     pub(crate) votes: [Option<Vote>; 8],

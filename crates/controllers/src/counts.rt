@@ -117,6 +117,7 @@ fn add_seat(picked: Picked, seat: u8, quorum: u8, named: bool) -> Picked
 }
 
 // The lowest seats with a record of the view, as many as a quorum.
+#[tactic(auto, using(crate::proofs::Steps::picked_none, crate::proofs::Steps::picked_more))]
 pub(crate) fn pick(records: &[Option<MoveRecord>], view: View, quorum: u8) -> SeatSet
     ensures { result.0 ≡ (Choice.picked records.now view quorum 16).map }
 {

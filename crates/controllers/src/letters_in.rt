@@ -10,22 +10,20 @@ ghost use Rattle.controllers.specs.Rules as Rules;
 
 use crate::controller::{Controller, Proposal};
 use ballots::Pair;
-use letters::bodies::{Body, Letter};
-use letters::certificates::{Basis, Certificate};
+use letters::bodies::{Body, WholeBody, WholeLetter};
 use letters::senders::sender_of;
-use letters::sorts::{Seal, SeatSet};
-use posting::few::{AtMostTwo, Posted};
+use letters::sorts::Seal;
+use posting::few::Posted;
 use posting::finish::{answer, finish};
-use posting::room::{refused_by_rule, require_room};
+use posting::replies::{CallResult, Reply};
+use posting::room::require_room;
 use schemes::scheme::Scheme;
-use seals::clearing::clear;
-use terms::numbers::{Change, View};
-use terms::parties::Outcome;
+use terms::numbers::Change;
 use terms::refusals::{Refusal, RuleCause};
 use terms::sizes::Sizes;
 use writing::certificates::certificate_digest;
 
-fn sender_number(body: &Body<Certificate, Basis>) -> usize
+fn sender_number(body: &WholeBody) -> usize
     ensures { result ≡ party_number (sender_of body.now) }
 {
     sender_of(body).number() as usize
@@ -41,14 +39,23 @@ impl Controller {
         }
     }
 
-    // All kinds of letters but proposals.
-    fn take_plain(
-        &mut self,
-        sizes: Sizes,
-        body: Body<Certificate, Basis>,
-        seal: Seal,
-    ) -> Result<AtMostTwo<Body<Certificate, Basis>>, RuleCause>
-        ensures { Rules.Follows self.old (Letters.plain_rule sizes self.old body seal) result self.new }
+    // Keeps what the controller has become by a letter, unless the call is refused. To a proposal
+    // it has assented: that is recorded with the seal that the assent was sent under.
+    fn store_taken(&mut self, body: &WholeBody, next: Controller, posted: &Result<Posted, Refusal>)
+        ensures { self.new ≡ Calls.keeping self.old (Letters.own_assent body.now next (seals_in posted.now).first) posted.now }
+    {
+        let Ok(posted) = posted else {
+            return;
+        };
+        *self = next;
+        if let Body::Proposal { .. } = body {
+            self.record_own_assent(posted.seals.first);
+        }
+    }
+
+    // By the rule of the body's kind; the own assent to a proposal is not recorded yet.
+    fn take_body(&mut self, sizes: Sizes, change: Change, body: WholeBody, seal: Seal) -> Reply
+        ensures { Rules.Follows self.old (Letters.taken sizes change self.old body seal) result self.new }
     {
         match body {
             Body::Enrol { sender } => self.take_enrol(sender, seal),
@@ -58,6 +65,21 @@ impl Controller {
                 number,
                 answer,
             } => self.take_vote(sender, number, answer, seal),
+            Body::Proposal {
+                sender: _,
+                view,
+                outcome,
+                certificate,
+                movers,
+            } => {
+                let proposal = Proposal {
+                    outcome,
+                    digest: certificate_digest(&certificate),
+                    certificate,
+                    seal,
+                };
+                self.take_proposal(sizes, change, view, movers, proposal)
+            }
             Body::Assent {
                 sender,
                 view,
@@ -79,154 +101,36 @@ impl Controller {
         }
     }
 
-    // Works on a copy, which is stored once all that is to be sent is posted.
-    fn serve_plain<S: Scheme>(
-        &mut self,
-        sizes: Sizes,
-        change: Change,
-        scheme: &S,
-        letter: &Letter<Certificate, Basis>,
-        sender: usize,
-        scratch: &mut [u8],
-        out: &mut [u8],
-    ) -> Result<AtMostTwo<usize>, Refusal>
-        requires { Calls.has_room out.old scratch.old ≡ true }
-        ensures { Calls.Goes (S.Scheme.holds scheme.now) change self.old out.old scratch.old (λ _. Calls.pointed sender (Letters.plain_rule sizes self.old letter.now.body letter.now.seal)) (Calls.went result self.new out.new scratch.new) }
+    // 7 for a letter of another change, before its kind is looked at.
+    fn take_letter(&mut self, sizes: Sizes, change: Change, letter: &WholeLetter) -> Reply
+        ensures { Rules.Follows self.old (Letters.letter_taken sizes change self.old letter.now) result self.new }
     {
-        let mut next = *self;
-        let reply = next.take_plain(sizes, letter.body, letter.seal);
-        let posted = finish(scheme, change, reply, sender, scratch, out);
-        self.store(next, &posted);
-        answer(posted)
-    }
-
-    // `keep_proposal` is alike: a shared function would take a closure that changes the controller.
-    fn keep_assent(&mut self, proposal: Proposal, posted: &Result<Posted, Refusal>)
-        ensures { self.new ≡ Calls.keeping self.old (Rules.held self.old proposal (seals_in posted.now).first) posted.now }
-    {
-        if let Ok(posted) = posted {
-            self.hold_and_assent(proposal, posted.seals.first);
+        if letter.change != change {
+            return Err(RuleCause::OtherChange);
         }
+        self.take_body(sizes, change, letter.body, letter.seal)
     }
 
-    // Holds a proposal and assents to it; the seal of the own assent is kept.
-    fn assent_to<S: Scheme>(
-        &mut self,
-        change: Change,
-        scheme: &S,
-        proposal: Proposal,
-        sender: usize,
-        scratch: &mut [u8],
-        out: &mut [u8],
-    ) -> Result<AtMostTwo<usize>, Refusal>
-        requires { Calls.has_room out.old scratch.old ≡ true }
-        ensures { Calls.Goes (S.Scheme.holds scheme.now) change self.old out.old scratch.old (λ own. Calls.pointed sender (Rules.assenting self.old proposal own)) (Calls.went result self.new out.new scratch.new) }
-    {
-        let assent = Body::Assent {
-            sender: self.seat,
-            view: self.view,
-            outcome: proposal.outcome,
-            digest: proposal.digest,
-        };
-        let posted = finish(
-            scheme,
-            change,
-            Ok(AtMostTwo::One(assent)),
-            sender,
-            scratch,
-            out,
-        );
-        self.keep_assent(proposal, &posted);
-        answer(posted)
-    }
-
-    fn serve_proposal<S: Scheme>(
-        &mut self,
-        sizes: Sizes,
-        change: Change,
-        scheme: &S,
-        view: View,
-        movers: SeatSet,
-        proposal: Proposal,
-        sender: usize,
-        scratch: &mut [u8],
-        out: &mut [u8],
-    ) -> Result<AtMostTwo<usize>, Refusal>
-        requires { Calls.has_room out.old scratch.old ≡ true }
-        ensures { Calls.Goes (S.Scheme.holds scheme.now) change self.old out.old scratch.old (λ own. Calls.pointed sender (Rules.judged sizes change self.old view movers proposal own)) (Calls.went result self.new out.new scratch.new) }
-    {
-        let guards = self.may_hold(
-            sizes,
-            change,
-            view,
-            proposal.outcome,
-            &proposal.certificate,
-            proposal.digest,
-            movers,
-        );
-        match guards {
-            Ok(()) => self.assent_to(change, scheme, proposal, sender, scratch, out),
-            Err(cause) => {
-                clear(scratch);
-                Err(refused_by_rule(cause, sender))
-            }
-        }
-    }
-
-    // A letter of this change.
-    fn serve_body<S: Scheme>(
-        &mut self,
-        sizes: Sizes,
-        change: Change,
-        scheme: &S,
-        letter: &Letter<Certificate, Basis>,
-        sender: usize,
-        scratch: &mut [u8],
-        out: &mut [u8],
-    ) -> Result<AtMostTwo<usize>, Refusal>
-        requires { Calls.has_room out.old scratch.old ≡ true }
-        ensures { Calls.Goes (S.Scheme.holds scheme.now) change self.old out.old scratch.old (λ own. Calls.pointed sender (Letters.body_rule sizes change self.old letter.now.body letter.now.seal own)) (Calls.went result self.new out.new scratch.new) }
-    {
-        let Body::Proposal {
-            sender: _,
-            view,
-            outcome,
-            certificate,
-            movers,
-        } = letter.body
-        else {
-            return self.serve_plain(sizes, change, scheme, letter, sender, scratch, out);
-        };
-        let proposal = Proposal {
-            outcome,
-            digest: certificate_digest(&certificate),
-            certificate,
-            seal: letter.seal,
-        };
-        self.serve_proposal(
-            sizes, change, scheme, view, movers, proposal, sender, scratch, out,
-        )
-    }
-
-    // Serves a letter that was opened, or refuses it: 7 for a letter of another change, before its
-    // kind is looked at.
+    // Serves a letter that was opened, or refuses it. Works on a copy, which is stored once all
+    // that is to be sent is posted.
+    #[tactic(auto, using(posting::proofs::Goes::goes_nowhere))]
     pub(crate) fn serve<S: Scheme>(
         &mut self,
         sizes: Sizes,
         change: Change,
         scheme: &S,
-        letter: Letter<Certificate, Basis>,
+        letter: WholeLetter,
         scratch: &mut [u8],
         out: &mut [u8],
-    ) -> Result<AtMostTwo<usize>, Refusal>
+    ) -> CallResult
         ensures { Calls.Goes (S.Scheme.holds scheme.now) change self.old out.old scratch.old (λ own. Calls.pointed (party_number (sender_of letter.body)) (Letters.letter_rule sizes change self.old letter own)) (Calls.went result self.new out.new scratch.new) }
     {
         require_room(out.len(), scratch.len())?;
         let sender = sender_number(&letter.body);
-        if letter.change != change {
-            clear(scratch);
-            return Err(refused_by_rule(RuleCause::OtherChange, sender));
-        }
-        self.serve_body(sizes, change, scheme, &letter, sender, scratch, out)
+        let mut next = *self;
+        let reply = next.take_letter(sizes, change, &letter);
+        let posted = finish(scheme, change, reply, sender, scratch, out);
+        self.store_taken(&letter.body, next, &posted);
+        answer(posted)
     }
 }

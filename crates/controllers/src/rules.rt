@@ -7,9 +7,10 @@ use crate::controller::{Controller, MoveRecord, Proposal, Round};
 use crate::counts::{all_recorded, choose, covers};
 use ballots::{Pair, entry, put, tally};
 use letters::bodies::Body;
-use letters::certificates::{Basis, Certificate, Order, Vote};
+use letters::certificates::{Order, Vote};
 use letters::sorts::{Answer, Digest, Seal, SeatSet};
 use posting::few::AtMostTwo;
+use posting::replies::{Bodies, Reply};
 use terms::numbers::{Change, KeyNumber, Place, Seat, View};
 use terms::parties::Outcome;
 use terms::refusals::RuleCause;
@@ -28,11 +29,7 @@ fn may_order(held: Option<Order>, number: Option<KeyNumber>) -> Result<(), RuleC
     Err(RuleCause::Differs)
 }
 
-fn summons(
-    sender: Seat,
-    number: Option<KeyNumber>,
-    office_seal: Seal,
-) -> AtMostTwo<Body<Certificate, Basis>>
+fn summons(sender: Seat, number: Option<KeyNumber>, office_seal: Seal) -> Bodies
     ensures { result ≡ Rules.summons sender number office_seal }
 {
     // Two arms: a conversion of an option into at most two would serve here alone.
@@ -66,11 +63,7 @@ impl Controller {
     }
 
     // A lock enrols: its place is registered.
-    pub(crate) fn take_enrol(
-        &mut self,
-        place: Place,
-        seal: Seal,
-    ) -> Result<AtMostTwo<Body<Certificate, Basis>>, RuleCause>
+    pub(crate) fn take_enrol(&mut self, place: Place, seal: Seal) -> Reply
         ensures { Rules.Follows self.old (Rules.enrol_rule self.old place seal) result self.new }
     {
         self.may_enrol(place)?;
@@ -82,11 +75,7 @@ impl Controller {
     }
 
     // The office orders: the order is held.
-    pub(crate) fn take_order(
-        &mut self,
-        number: Option<KeyNumber>,
-        seal: Seal,
-    ) -> Result<AtMostTwo<Body<Certificate, Basis>>, RuleCause>
+    pub(crate) fn take_order(&mut self, number: Option<KeyNumber>, seal: Seal) -> Reply
         ensures { Rules.Follows self.old (Rules.order_rule self.old number seal) result self.new }
     {
         may_order(self.order, number)?;
@@ -119,7 +108,7 @@ impl Controller {
         number: KeyNumber,
         answer: Answer,
         seal: Seal,
-    ) -> Result<AtMostTwo<Body<Certificate, Basis>>, RuleCause>
+    ) -> Reply
         ensures { Rules.Follows self.old (Rules.vote_rule self.old place number answer seal) result self.new }
     {
         self.may_vote(place, number)?;

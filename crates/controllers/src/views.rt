@@ -6,10 +6,11 @@ ghost use Rattle.posting.specs.Replies as Replies;
 use crate::controller::{Controller, Draft, MoveRecord, Proposal, Round};
 use crate::counts::{all_recorded, choose, covers, pick};
 use ballots::{Ballot, Pair, entry, put, tally};
-use letters::bodies::Body;
+use letters::bodies::{Body, WholeBody};
 use letters::certificates::{Basis, Certificate};
 use letters::sorts::{Digest, Seal, SeatSet};
 use posting::few::AtMostTwo;
+use posting::replies::{Bodies, Reply};
 use terms::numbers::{Change, Seat, View};
 use terms::parties::Outcome;
 use terms::refusals::RuleCause;
@@ -77,14 +78,8 @@ impl Controller {
         choose(&self.records, movers, self.view)
     }
 
-    fn may_choose(
-        &self,
-        outcome: Outcome,
-        certificate: &Certificate,
-        digest: Digest,
-        choice: Option<Basis>,
-    ) -> Result<(), RuleCause>
-        ensures { result ≡ Rules.may_choose self.now outcome certificate.now digest choice }
+    fn may_choose(&self, proposal: &Proposal, choice: Option<Basis>) -> Result<(), RuleCause>
+        ensures { result ≡ Rules.may_choose self.now proposal.now.outcome proposal.now.certificate proposal.now.digest choice }
     {
         match choice {
             Some(basis) => {
@@ -92,13 +87,13 @@ impl Controller {
                     outcome: basis.outcome,
                     digest: certificate_digest(&basis.certificate),
                 };
-                if !(Pair { outcome, digest }).agrees(&chosen) {
+                if !proposal.pair().agrees(&chosen) {
                     return Err(RuleCause::AgainstChoice);
                 }
                 Ok(())
             }
             None => {
-                if !covers(&self.registered, &certificate.enrolled) {
+                if !covers(&self.registered, &proposal.certificate.enrolled) {
                     return Err(RuleCause::PlaceLeftOut);
                 }
                 Ok(())
@@ -113,17 +108,15 @@ impl Controller {
         sizes.leader(change, self.view) == self.seat
     }
 
-    pub(crate) fn may_hold(
+    fn may_hold(
         &self,
         sizes: Sizes,
         change: Change,
         view: View,
-        outcome: Outcome,
-        certificate: &Certificate,
-        digest: Digest,
         movers: SeatSet,
+        proposal: &Proposal,
     ) -> Result<(), RuleCause>
-        ensures { result ≡ Rules.may_hold sizes change self.now view outcome certificate.now digest movers }
+        ensures { result ≡ Rules.may_hold sizes change self.now view proposal.now.outcome proposal.now.certificate proposal.now.digest movers }
     {
         if view != self.view {
             return Err(RuleCause::OtherView);
@@ -134,13 +127,13 @@ impl Controller {
         if self.round.proposal.is_some() {
             return Err(RuleCause::Repeated);
         }
-        if !certificate.result().agrees(&outcome) {
+        if !proposal.certificate.result().agrees(&proposal.outcome) {
             return Err(RuleCause::FalseResult);
         }
         if !all_recorded(&self.records, movers, self.view) {
             return Err(RuleCause::MoversMissing);
         }
-        self.may_choose(outcome, certificate, digest, self.choice(movers))
+        self.may_choose(proposal, self.choice(movers))
     }
 
     // The proposal is held, and its order if none is.
@@ -151,13 +144,36 @@ impl Controller {
         self.round.proposal = Some(proposal);
     }
 
-    // A proposal of the leader: held, and the own assent recorded.
-    pub(crate) fn hold_and_assent(&mut self, proposal: Proposal, own: Seal)
-        ensures { self.new ≡ Rules.held self.old proposal own }
+    // The leader proposes: the proposal is held, and assented to. The own assent is recorded once
+    // it has its seal.
+    pub(crate) fn take_proposal(
+        &mut self,
+        sizes: Sizes,
+        change: Change,
+        view: View,
+        movers: SeatSet,
+        proposal: Proposal,
+    ) -> Reply
+        ensures { Rules.Follows self.old (Rules.holding sizes change self.old view movers proposal) result self.new }
     {
+        self.may_hold(sizes, change, view, movers, &proposal)?;
         self.hold(proposal);
-        let seat = self.seat;
-        self.round.record_assent(seat, proposal.pair(), own);
+        Ok(AtMostTwo::One(Body::Assent {
+            sender: self.seat,
+            view: self.view,
+            outcome: proposal.outcome,
+            digest: proposal.digest,
+        }))
+    }
+
+    // The own assent to the held proposal, with its seal.
+    pub(crate) fn record_own_assent(&mut self, own: Seal)
+        ensures { self.new ≡ Rules.seconded self.old own self.old.round.proposal }
+    {
+        if let Some(held) = self.round.proposal {
+            let seat = self.seat;
+            self.round.record_assent(seat, held.pair(), own);
+        }
     }
 
     fn confirmed_here(&self) -> bool
@@ -213,7 +229,7 @@ impl Controller {
         Ok(())
     }
 
-    fn confirm_body(&self, pair: Pair) -> Body<Certificate, Basis>
+    fn confirm_body(&self, pair: Pair) -> WholeBody
         ensures { result ≡ Rules.confirm_body self.now pair }
     {
         Body::Confirm {
@@ -224,7 +240,7 @@ impl Controller {
         }
     }
 
-    fn result_body(&self, pair: Pair) -> Body<Certificate, Basis>
+    fn result_body(&self, pair: Pair) -> WholeBody
         ensures { result ≡ Rules.result_body self.now pair }
     {
         Body::Result {
@@ -251,7 +267,7 @@ impl Controller {
 
     // With 2f assents recorded the controller confirms.
     #[tactic(auto, unfolding(crate::specs::Rules::confirming))]
-    fn confirming(&mut self, sizes: Sizes, pair: Pair) -> AtMostTwo<Body<Certificate, Basis>>
+    fn confirming(&mut self, sizes: Sizes, pair: Pair) -> Bodies
         ensures { Rules.Follows self.old (Rules.confirming sizes self.old pair self.old.round.proposal) (Ok result) self.new }
     {
         let Some(held) = self.round.proposal else {
@@ -274,7 +290,7 @@ impl Controller {
         view: View,
         pair: Pair,
         seal: Seal,
-    ) -> Result<AtMostTwo<Body<Certificate, Basis>>, RuleCause>
+    ) -> Reply
         ensures { Rules.Follows self.old (Rules.assent_rule sizes self.old seat view pair seal) result self.new }
     {
         self.may_assent(sizes, seat, view, pair)?;
@@ -296,13 +312,7 @@ impl Controller {
     }
 
     // A controller confirms the held proposal.
-    pub(crate) fn take_confirm(
-        &mut self,
-        sizes: Sizes,
-        seat: Seat,
-        view: View,
-        pair: Pair,
-    ) -> Result<AtMostTwo<Body<Certificate, Basis>>, RuleCause>
+    pub(crate) fn take_confirm(&mut self, sizes: Sizes, seat: Seat, view: View, pair: Pair) -> Reply
         ensures { Rules.Follows self.old (Rules.confirm_rule sizes self.old seat view pair) result self.new }
     {
         self.may_confirm(seat, view, pair)?;
@@ -315,7 +325,7 @@ impl Controller {
     }
 
     // Enters a view: the round is forgotten, the own record stored with the own basis.
-    fn enter_view(&mut self, view: View) -> AtMostTwo<Body<Certificate, Basis>>
+    fn enter_view(&mut self, view: View) -> Bodies
         ensures answer { Ok result ≡ Replies.sends (Rules.enter_view self.old view) }
         ensures unit { self.new ≡ Rules.entered self.old view }
     {
@@ -364,7 +374,7 @@ impl Controller {
         seat: Seat,
         view: View,
         basis: Option<Basis>,
-    ) -> Result<AtMostTwo<Body<Certificate, Basis>>, RuleCause>
+    ) -> Reply
         ensures { Rules.Follows self.old (Rules.move_rule sizes self.old seat view basis) result self.new }
     {
         self.may_move(seat, view, &basis)?;
@@ -380,7 +390,7 @@ impl Controller {
     }
 
     // The view has lasted too long: the controller enters the next one.
-    pub(crate) fn take_ring(&mut self) -> Result<AtMostTwo<Body<Certificate, Basis>>, RuleCause>
+    pub(crate) fn take_ring(&mut self) -> Reply
         ensures { Rules.Follows self.old (Rules.ring_rule self.old) result self.new }
     {
         let view = self.view.number();

@@ -7,10 +7,10 @@ ghost use Rattle.kept.specs.Kept as Kept;
 ghost use Rattle.letters.specs.Bodies.{retold};
 ghost use Rattle.reading.specs.Parts.{span, spans};
 
-use letters::bodies::Body;
+use letters::bodies::WholeBody;
 use letters::certificates::{Basis, Certificate, Order, Vote};
 use letters::sorts::{Answer, Seal};
-use reading::parts::{Grounds, Part};
+use reading::parts::{Grounds, Part, ReadBody};
 use std::array;
 use terms::numbers::{KeyNumber, View};
 
@@ -158,7 +158,7 @@ pub fn basis_in(grounds: Grounds) -> Basis
 }
 
 // What a letter that was read says, with its certificate and its basis as values.
-pub fn keep(body: Body<Part, Grounds>) -> Body<Certificate, Basis>
+pub fn keep(body: ReadBody) -> WholeBody
     ensures { result ≡ Kept.kept_body (retold span spans body.entry) }
 {
     body.retold(certificate_in, basis_in)

@@ -2,8 +2,7 @@
 use crate::refused::{or_sentence, print_refusal};
 use crate::spelled;
 use anyhow::Context;
-use letters::bodies::Body;
-use letters::certificates::{Basis, Certificate};
+use letters::bodies::{Body, WholeBody};
 use schemes::keys::SheetSeals;
 use schemes::scheme::Scheme;
 use seals::opening::open;
@@ -15,7 +14,7 @@ use terms::sizes::Sizes;
 fn send_in_7<S: Scheme>(
     rt: &impl Print,
     scheme: &S,
-    body: Body<Certificate, Basis>,
+    body: WholeBody,
     out: &mut [u8],
 ) -> anyhow::Result<()> {
     let change = Change::new(7).context("not a change")?;

@@ -3,6 +3,7 @@ ghost use Rattle.std.specs.Prelude.{◌≡◌};
 ghost use Rattle.letters.specs.Bodies.{kind_of_body};
 ghost use Rattle.letters.specs.Retold.{RetoldBy};
 
+use crate::certificates::{Basis, Certificate};
 use crate::sorts::{Answer, Digest, Kind, Seal, SeatSet};
 use terms::numbers::{Change, KeyNumber, Place, Seat, View};
 use terms::parties::Outcome;
@@ -157,6 +158,9 @@ impl<C, B> Body<C, B> {
     }
 }
 
+// A body with its certificate and its basis whole, as a letter to be sent has them.
+pub type WholeBody = Body<Certificate, Basis>;
+
 // What a move's statement tells of its basis.
 #[derive(Clone, Copy)]
 pub struct Brief {
@@ -172,3 +176,6 @@ pub struct Letter<C, B> {
     pub body: Body<C, B>,
     pub seal: Seal,
 }
+
+// A letter to be sent.
+pub type WholeLetter = Letter<Certificate, Basis>;

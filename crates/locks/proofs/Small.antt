@@ -68,13 +68,13 @@ body_short t sizes k m (B.Confirm s v x d) = tt
 body_short t sizes k m (B.Result s x) = passed t (may_result k m s x) _ (either t _ _ (served (resulted k s x) nothing Nothing) (ended_short t (resulted k s x) x) (omega arith))
 body_short t sizes k m (B.Move s v g) = tt
 
-module _ (t : Change) (k : Lock) (out scratch : List ℕ) (h : has_room out scratch ≡ true) where
-  pub enrol_fits : AllFit t 0 k out scratch (replied (enrol_rule k))
-  enrol_fits = short_fits t k out scratch (enrol_rule k) h (passed t (may_apply k) _ (enrol_short t k.place))
+module _ (t : Change) (k : Lock) (out scratch : List ℕ) where
+  pub enrol_fits : has_room out scratch ≡ true → AllFit t 0 k out scratch (replied (enrol_rule k))
+  enrol_fits h = short_fits t k out scratch (enrol_rule k) h (passed t (may_apply k) _ (enrol_short t k.place))
 
-  pub decline_fits : AllFit t 0 k out scratch (replied (decline_rule k))
-  decline_fits = short_fits t k out scratch (decline_rule k) h (passed t (may_decline k) _ (omega arith))
+  pub decline_fits : has_room out scratch ≡ true → AllFit t 0 k out scratch (replied (decline_rule k))
+  decline_fits h = short_fits t k out scratch (decline_rule k) h (passed t (may_decline k) _ (omega arith))
 
   -- whatever letter a lock is handed
-  pub letter_fits_holds : {C D : Type 0} (sizes : Sizes) (m : Meaning) (l : Letter C D) → AllFit t 0 k out scratch (replied (letter_rule sizes t k m l))
-  letter_fits_holds sizes m l = short_fits t k out scratch (letter_rule sizes t k m l) h (either t (not (eqb l.change.0 t.0)) _ _ tt (body_short t sizes k m l.body))
+  pub letter_fits_holds : {C D : Type 0} (sizes : Sizes) (m : Meaning) (l : Letter C D) → has_room out scratch ≡ true → AllFit t 0 k out scratch (replied (letter_rule sizes t k m l))
+  letter_fits_holds sizes m l h = short_fits t k out scratch (letter_rule sizes t k m l) h (either t (not (eqb l.change.0 t.0)) _ _ tt (body_short t sizes k m l.body))

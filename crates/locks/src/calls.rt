@@ -5,12 +5,11 @@ ghost use Rattle.posting.specs.Calls as Calls;
 ghost use Rattle.locks.specs.Rules as Rules;
 
 use crate::lock::Lock;
-use posting::few::AtMostTwo;
 use posting::finish::{answer, finish};
+use posting::replies::CallResult;
 use posting::room::require_room;
 use schemes::scheme::Scheme;
 use terms::numbers::Change;
-use terms::refusals::Refusal;
 
 impl Lock {
     // The lock enrols. It shares its two ends with declining; the rule between them would be a closure.
@@ -20,7 +19,7 @@ impl Lock {
         scheme: &S,
         scratch: &mut [u8],
         out: &mut [u8],
-    ) -> Result<AtMostTwo<usize>, Refusal>
+    ) -> CallResult
         ensures call { Calls.Goes (S.Scheme.holds scheme.now) change self.old out.old scratch.old (λ _. Calls.pointed 0 (Rules.replied (Rules.enrol_rule self.old))) (Calls.went result self.new out.new scratch.new) }
         ensures room_suffices { (result ≡ Err no_room) ↔ (Calls.has_room out.old scratch.old ≡ false) }
     {
@@ -36,7 +35,7 @@ impl Lock {
         scheme: &S,
         scratch: &mut [u8],
         out: &mut [u8],
-    ) -> Result<AtMostTwo<usize>, Refusal>
+    ) -> CallResult
         ensures call { Calls.Goes (S.Scheme.holds scheme.now) change self.old out.old scratch.old (λ _. Calls.pointed 0 (Rules.replied (Rules.decline_rule self.old))) (Calls.went result self.new out.new scratch.new) }
         ensures room_suffices { (result ≡ Err no_room) ↔ (Calls.has_room out.old scratch.old ≡ false) }
     {

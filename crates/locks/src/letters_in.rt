@@ -11,31 +11,25 @@ ghost use Rattle.locks.specs.Rules as Rules;
 
 use crate::lock::Lock;
 use boards::board::Board;
-use letters::bodies::{Body, Letter};
-use letters::certificates::{Basis, Certificate};
+use letters::bodies::Body;
 use letters::senders::sender_of;
-use posting::few::AtMostTwo;
 use posting::finish::{answer, finish};
+use posting::replies::{CallResult, Reply};
 use posting::room::require_room;
-use reading::parts::{Grounds, Part};
+use reading::parts::{ReadBody, ReadLetter};
 use schemes::scheme::Scheme;
 use terms::numbers::Change;
-use terms::refusals::{Refusal, RuleCause};
+use terms::refusals::RuleCause;
 use terms::sizes::Sizes;
 
-fn sender_number(body: Body<Part, Grounds>) -> usize
+fn sender_number(body: ReadBody) -> usize
     ensures { result ≡ party_number (sender_of body.entry) }
 {
     sender_of(&body).number() as usize
 }
 
 impl Lock {
-    fn take_body<B: Board>(
-        &mut self,
-        sizes: Sizes,
-        board: &mut B,
-        body: Body<Part, Grounds>,
-    ) -> Result<AtMostTwo<Body<Certificate, Basis>>, RuleCause>
+    fn take_body<B: Board>(&mut self, sizes: Sizes, board: &mut B, body: ReadBody) -> Reply
         ensures follows { Rules.Follows self.old (Letters.body_rule sizes self.old (B.Board.meaning board.old) body.entry) result self.new }
         ensures board { B.Board.meaning board.new ≡ Rules.board_after (B.Board.meaning board.old) self.old.place (Letters.body_rule sizes self.old (B.Board.meaning board.old) body.entry) }
     {
@@ -57,8 +51,8 @@ impl Lock {
         sizes: Sizes,
         change: Change,
         board: &mut B,
-        letter: Letter<Part, Grounds>,
-    ) -> Result<AtMostTwo<Body<Certificate, Basis>>, RuleCause>
+        letter: ReadLetter,
+    ) -> Reply
         ensures follows { Rules.Follows self.old (Letters.letter_rule sizes change self.old (B.Board.meaning board.old) letter.entry) result self.new }
         ensures board { B.Board.meaning board.new ≡ Rules.board_after (B.Board.meaning board.old) self.old.place (Letters.letter_rule sizes change self.old (B.Board.meaning board.old) letter.entry) }
     {
@@ -75,10 +69,10 @@ impl Lock {
         change: Change,
         scheme: &S,
         board: &mut B,
-        letter: Letter<Part, Grounds>,
+        letter: ReadLetter,
         scratch: &mut [u8],
         out: &mut [u8],
-    ) -> Result<AtMostTwo<usize>, Refusal>
+    ) -> CallResult
         ensures call { Calls.Goes (S.Scheme.holds scheme.now) change self.old out.old scratch.old (λ _. Calls.pointed (party_number (sender_of letter.entry.body)) (Rules.replied (Letters.letter_rule sizes change self.old (B.Board.meaning board.old) letter.entry))) (Calls.went result self.new out.new scratch.new) }
         ensures board { B.Board.meaning board.new ≡ Rules.board_called (B.Board.meaning board.old) self.old.place out.old scratch.old (Letters.letter_rule sizes change self.old (B.Board.meaning board.old) letter.entry) }
         ensures room_suffices { (result ≡ Err no_room) ↔ (Calls.has_room out.old scratch.old ≡ false) }

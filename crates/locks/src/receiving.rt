@@ -11,11 +11,10 @@ ghost use Rattle.locks.specs.Fresh.{fresh_lock};
 
 use crate::lock::{Lock, Standing};
 use boards::board::Board;
-use posting::few::AtMostTwo;
+use posting::replies::CallResult;
 use schemes::scheme::Scheme;
 use seals::opening::Opened;
 use terms::numbers::{Change, Place};
-use terms::refusals::Refusal;
 use terms::sizes::Sizes;
 
 impl Lock {
@@ -47,7 +46,7 @@ impl Lock {
         opened: Opened,
         scratch: &mut [u8],
         out: &mut [u8],
-    ) -> Result<AtMostTwo<usize>, Refusal>
+    ) -> CallResult
         ensures call { Calls.Goes (S.Scheme.holds scheme.now) change self.old out.old scratch.old (λ _. Calls.pointed (party_number (sender_of (shown opened.entry.letter).body)) (Rules.replied (Letters.letter_rule sizes change self.old (B.Board.meaning board.old) (shown opened.entry.letter)))) (Calls.went result self.new out.new scratch.new) }
         ensures board { B.Board.meaning board.new ≡ Rules.board_called (B.Board.meaning board.old) self.old.place out.old scratch.old (Letters.letter_rule sizes change self.old (B.Board.meaning board.old) (shown opened.entry.letter)) }
         ensures room_suffices { (result ≡ Err no_room) ↔ (Calls.has_room out.old scratch.old ≡ false) }

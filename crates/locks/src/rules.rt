@@ -6,9 +6,9 @@ use crate::lock::{Lock, Standing};
 use ballots::{Receipted, entry, put, tally};
 use boards::board::Board;
 use letters::bodies::Body;
-use letters::certificates::{Basis, Certificate};
 use letters::sorts::Answer;
 use posting::few::AtMostTwo;
+use posting::replies::Reply;
 use terms::numbers::{KeyNumber, Place, Seat};
 use terms::parties::Outcome;
 use terms::refusals::RuleCause;
@@ -25,7 +25,7 @@ impl Lock {
     }
 
     // The lock enrols: it applies.
-    pub(crate) fn apply(&mut self) -> Result<AtMostTwo<Body<Certificate, Basis>>, RuleCause>
+    pub(crate) fn apply(&mut self) -> Reply
         ensures { Rules.Follows self.old (Rules.enrol_rule self.old) result self.new }
     {
         self.may_apply()?;
@@ -49,12 +49,7 @@ impl Lock {
     }
 
     // A controller has the lock on its list; a quorum of them enrols it.
-    pub(crate) fn take_receipt(
-        &mut self,
-        sizes: Sizes,
-        seat: Seat,
-        place: Place,
-    ) -> Result<AtMostTwo<Body<Certificate, Basis>>, RuleCause>
+    pub(crate) fn take_receipt(&mut self, sizes: Sizes, seat: Seat, place: Place) -> Reply
         ensures { Rules.Follows self.old (Rules.receipt_rule sizes self.old seat place) result self.new }
     {
         self.may_receipt(seat, place)?;
@@ -75,7 +70,7 @@ impl Lock {
     }
 
     // The lock will not take part: it keeps its number.
-    pub(crate) fn take_decline(&mut self) -> Result<AtMostTwo<Body<Certificate, Basis>>, RuleCause>
+    pub(crate) fn take_decline(&mut self) -> Reply
         ensures { Rules.Follows self.old (Rules.decline_rule self.old) result self.new }
     {
         self.may_decline()?;
@@ -96,11 +91,7 @@ impl Lock {
     }
 
     // A controller tells of an order: the lock stages the number, or refuses it.
-    pub(crate) fn take_summons<B: Board>(
-        &mut self,
-        board: &mut B,
-        number: KeyNumber,
-    ) -> Result<AtMostTwo<Body<Certificate, Basis>>, RuleCause>
+    pub(crate) fn take_summons<B: Board>(&mut self, board: &mut B, number: KeyNumber) -> Reply
         ensures follows { Rules.Follows self.old (Rules.summons_rule self.old (B.Board.meaning board.old) number) result self.new }
         ensures board { B.Board.meaning board.new ≡ Rules.board_after (B.Board.meaning board.old) self.old.place (Rules.summons_rule self.old (B.Board.meaning board.old) number) }
     {
@@ -172,7 +163,7 @@ impl Lock {
         board: &mut B,
         seat: Seat,
         outcome: Outcome,
-    ) -> Result<AtMostTwo<Body<Certificate, Basis>>, RuleCause>
+    ) -> Reply
         ensures follows { Rules.Follows self.old (Rules.result_rule sizes self.old (B.Board.meaning board.old) seat outcome) result self.new }
         ensures board { B.Board.meaning board.new ≡ Rules.board_after (B.Board.meaning board.old) self.old.place (Rules.result_rule sizes self.old (B.Board.meaning board.old) seat outcome) }
     {

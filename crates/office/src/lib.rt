@@ -7,9 +7,9 @@ ghost use Rattle.posting.specs.Calls as Calls;
 ghost use Rattle.posting.specs.Replies as Replies;
 
 use letters::bodies::Body;
-use letters::certificates::{Basis, Certificate};
 use posting::few::AtMostTwo;
 use posting::finish::{answer, finish};
+use posting::replies::{CallResult, Reply};
 use posting::room::require_room;
 use schemes::scheme::Scheme;
 use seals::clearing::clear;
@@ -36,10 +36,7 @@ impl Office {
         self.ordered
     }
 
-    fn take_order(
-        &mut self,
-        number: Option<KeyNumber>,
-    ) -> Result<AtMostTwo<Body<Certificate, Basis>>, RuleCause>
+    fn take_order(&mut self, number: Option<KeyNumber>) -> Reply
         ensures answer { result ≡ Replies.sends (Rules.order_rule self.old number) }
         ensures unit { self.new ≡ Replies.after self.old (Rules.order_rule self.old number) }
     {
@@ -51,6 +48,7 @@ impl Office {
     }
 
     // Orders a key number, or a cancel.
+    #[tactic(auto, using(posting::proofs::Goes::goes_nowhere))]
     fn order_key<S: Scheme>(
         &mut self,
         change: Change,
@@ -58,7 +56,7 @@ impl Office {
         number: Option<KeyNumber>,
         scratch: &mut [u8],
         out: &mut [u8],
-    ) -> Result<AtMostTwo<usize>, Refusal>
+    ) -> CallResult
         ensures { Calls.Goes (S.Scheme.holds scheme.now) change self.old out.old scratch.old (λ _. Calls.pointed 0 (Rules.order_rule self.old number)) (Calls.went result self.new out.new scratch.new) }
     {
         require_room(out.len(), scratch.len())?;
@@ -67,6 +65,7 @@ impl Office {
     }
 
     // Orders a number for all doors; without a number, that the change is cancelled.
+    #[tactic(auto, using(posting::proofs::Goes::goes_nowhere))]
     pub fn order<S: Scheme>(
         &mut self,
         change: Change,
@@ -74,7 +73,7 @@ impl Office {
         number: Option<u32>,
         scratch: &mut [u8],
         out: &mut [u8],
-    ) -> Result<AtMostTwo<usize>, Refusal>
+    ) -> CallResult
         ensures { Calls.Goes (S.Scheme.holds scheme.now) change self.old out.old scratch.old (λ _. Rules.order_reply self.old number) (Calls.went result self.new out.new scratch.new) }
     {
         let Some(number) = number else {

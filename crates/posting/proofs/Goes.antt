@@ -20,16 +20,46 @@ use Rattle.posting.proofs.Writes.{cleared_twice, length_cleared}
 false_true : false ≡ true → ⊥
 false_true e = let z : ◌≡◌ {A = ℕ} 0 1 = ap (λ b. cond b 1 0) e in omega arith
 
--- too little room
+-- ---- the room that a call has asked for
+
+abbrev answer_of_room : Bool → Result (Unit {0}) Refusal
+answer_of_room b = cond b (Ok tt) (Err no_room)
+
+has : (b : Bool) (x : Unit {0}) → Ok x ≡ answer_of_room b → b ≡ true
+has true x e = refl
+has false x e = let z : ◌≡◌ {A = ℕ} 0 1 = cc in absurd (omega arith)
+
+has_not : (b : Bool) (x : Refusal) → Err x ≡ answer_of_room b → b ≡ false
+has_not true x e = let z : ◌≡◌ {A = ℕ} 0 1 = cc in absurd (omega arith)
+has_not false x e = refl
+
+pub has_room_lem : (out scratch : List ℕ) (x : Unit {0}) → Ok x ≡ room_answer (length out) (length scratch) → has_room out scratch ≡ true
+has_room_lem out scratch x e = has (has_room out scratch) x e
+
+pub has_no_room : (out scratch : List ℕ) (x : Refusal) → Err x ≡ room_answer (length out) (length scratch) → has_room out scratch ≡ false
+has_no_room out scratch x e = has_not (has_room out scratch) x e
+
+abbrev refusal_in : Result (Unit {0}) Refusal → Refusal
+refusal_in (Ok x) = no_room
+refusal_in (Err e) = e
+
+-- a call that found too little room
 pub goes_nowhere :
-    {U : Type 0} (holds : Relation) (t : Change) (u : U) (out scratch : List ℕ) (rule : Seal → Reply Refusal U) (w : Went U) → has_room out scratch ≡ false →
-    w ≡ went (Err no_room) u out scratch → Goes holds t u out scratch rule w
-goes_nowhere holds t u out scratch rule w h e = record {
-  seals = no_seals;
-  words = refl;
-  goes = e ∙ sym (ap (λ b. cond b (finished t u out scratch no_seals (rule no_seals.first)) (went (Err no_room) u out scratch)) h);
-  sealed = λ o. absurd (false_true (sym (ap (λ x. isOk x.answer) e) ∙ o));
-}
+    {U : Type 0} (holds : Relation) (t : Change) (u : U) (out scratch : List ℕ) (rule : Seal → Reply Refusal U) (a : Result (AtMostTwo ℕ) Refusal) (x : Refusal) →
+    Err x ≡ room_answer (length out) (length scratch) → a ≡ Err x → Goes holds t u out scratch rule (went a u out scratch)
+goes_nowhere holds t u out scratch rule a x e k =
+    let h = has_no_room out scratch x e in
+    record {
+      seals = no_seals;
+      words = refl;
+      goes =
+          ap (λ y. went y u out scratch) k
+          ∙ ap (λ y. went (Err y) u out scratch) (ap refusal_in e ∙ ap (λ b. refusal_in (answer_of_room b)) h)
+          ∙ sym (ap (λ b. cond b (finished t u out scratch no_seals (rule no_seals.first)) (went (Err no_room) u out scratch)) h);
+      sealed = λ o. absurd (false_true (sym (ap isOk k) ∙ o));
+    }
+
+-- ---- the end of a call
 
 pub scratch_room : (out scratch : List ℕ) → has_room out scratch ≡ true → roomy scratch ≡ true
 scratch_room out scratch h = grind (arith, nat_tests)
@@ -85,7 +115,7 @@ module _ {U : Type 0} (t : Change) (sender : ℕ) (u : U) (out scratch : List �
   -- a call that works on a copy of the unit and stores it last
   pub goes-copied :
       (holds : Relation) (rule : Seal → Reply RuleCause U) (reply : Result Bodies RuleCause) (a : Result Posted Refusal) (ans : Result (AtMostTwo ℕ) Refusal) (v : U) (out' scratch' : List ℕ) →
-      has_room out scratch ≡ true →
+      Ok tt ≡ room_answer (length out) (length scratch) →
       reply ≡ sends (rule (seals_in a).first) →
       v ≡ keeping u (after u (rule (seals_in a).first)) a →
       ending a out' scratch' ≡ ended t sender reply (seals_in a) out scratch →
@@ -99,7 +129,7 @@ module _ {U : Type 0} (t : Change) (sender : ℕ) (u : U) (out scratch : List �
     goes =
         ap (λ y. went y v out' scratch') k
         ∙ ap (λ y. went (answered a) y out' scratch') n
-        ∙ ended-called (seals_in a) (rule (seals_in a).first) a out' scratch' h (e ∙ ap (λ y. ended t sender y (seals_in a) out scratch) p);
+        ∙ ended-called (seals_in a) (rule (seals_in a).first) a out' scratch' (has_room_lem out scratch tt h) (e ∙ ap (λ y. ended t sender y (seals_in a) out scratch) p);
     sealed = λ o. reply_sealed_holds holds (seals_in a) (rule (seals_in a).first) (sym (ap (λ y. sent_sealed holds t y (seals_in a)) p) ∙ s (is_ok a (sym (ap isOk k) ∙ o)));
   }
 
@@ -118,7 +148,7 @@ module _ {U : Type 0} (t : Change) (sender : ℕ) (u : U) (out scratch : List �
   -- a call whose letters always fit changes the unit at once
   pub goes-in-place :
       (holds : Relation) (r : Reply RuleCause U) (reply : Result Bodies RuleCause) (a : Result Posted Refusal) (ans : Result (AtMostTwo ℕ) Refusal) (v : U) (out' scratch' : List ℕ) →
-      has_room out scratch ≡ true → AllFit r →
+      Ok tt ≡ room_answer (length out) (length scratch) → (has_room out scratch ≡ true → AllFit r) →
       reply ≡ sends r →
       v ≡ after u r →
       ending a out' scratch' ≡ ended t sender reply (seals_in a) out scratch →
@@ -127,8 +157,9 @@ module _ {U : Type 0} (t : Change) (sender : ℕ) (u : U) (out scratch : List �
       ans ≡ answered a →
       Goes holds t u out scratch (λ z. pointed sender r) (went ans v out' scratch')
   goes-in-place holds r reply a ans v out' scratch' h f p n e x s k =
+      let room = has_room_lem out scratch tt h in
       goes-copied holds (λ z. r) reply a ans v out' scratch' h p
-      (n ∙ sym (in_place (seals_in a) r a (scratch_room out scratch h) f (ap (λ (x : Ending). x.answer) e ∙ ap (λ x. (ended t sender x (seals_in a) out scratch).answer) p)))
+      (n ∙ sym (in_place (seals_in a) r a (scratch_room out scratch room) (f room) (ap (λ (x : Ending). x.answer) e ∙ ap (λ x. (ended t sender x (seals_in a) out scratch).answer) p)))
       e x s k
 
   -- and is refused for want of room only before it began
@@ -149,25 +180,6 @@ module _ {U : Type 0} (t : Change) (sender : ℕ) (u : U) (out scratch : List �
     pub room_suffices : (w.answer ≡ Err no_room) ↔ (has_room out scratch ≡ false)
     room_suffices = by_room (has_room out scratch) refl
 
--- ---- the room that a call has asked for
-
-abbrev answer_of_room : Bool → Result (Unit {0}) Refusal
-answer_of_room b = cond b (Ok tt) (Err no_room)
-
-has : (b : Bool) (x : Unit {0}) → Ok x ≡ answer_of_room b → b ≡ true
-has true x e = refl
-has false x e = let z : ◌≡◌ {A = ℕ} 0 1 = cc in absurd (omega arith)
-
-has_not : (b : Bool) (x : Refusal) → Err x ≡ answer_of_room b → b ≡ false
-has_not true x e = let z : ◌≡◌ {A = ℕ} 0 1 = cc in absurd (omega arith)
-has_not false x e = refl
-
-pub has_room_lem : (out scratch : List ℕ) (x : Unit {0}) → Ok x ≡ room_answer (length out) (length scratch) → has_room out scratch ≡ true
-has_room_lem out scratch x e = has (has_room out scratch) x e
-
-pub has_no_room : (out scratch : List ℕ) (x : Refusal) → Err x ≡ room_answer (length out) (length scratch) → has_room out scratch ≡ false
-has_no_room out scratch x e = has_not (has_room out scratch) x e
-
 -- the same call, by an equal rule
 pub goes_along :
     {U : Type 0} {holds : Relation} {t : Change} {u : U} {out scratch : List ℕ} {rule rule' : Seal → Reply Refusal U} {w : Went U} →
@@ -177,21 +189,6 @@ goes_along {U} {holds} {t} {u} {out} {scratch} {rule} {rule'} {w} e g = record {
   words = g.words;
   goes = g.goes ∙ ap (called t u out scratch g.seals) (e g.seals.first);
   sealed = λ o. sym (ap (reply_sealed holds t g.seals) (e g.seals.first)) ∙ g.sealed o;
-}
-
--- a call that its rule refuses
-pub goes_refused :
-    {U : Type 0} (holds : Relation) (t : Change) (u : U) (out scratch : List ℕ) (rule : Seal → Reply Refusal U) (e e' : Refusal) (scratch' : List ℕ) → has_room out scratch ≡ true →
-    ((z : Seal) → rule z ≡ refused e) → e' ≡ e → scratch' ≡ scratch_after scratch → Goes holds t u out scratch rule (went (Err e') u out scratch')
-goes_refused holds t u out scratch rule e e' scratch' h r k s = record {
-  seals = no_seals;
-  words = refl;
-  goes =
-      ap (λ x. went (Err x) u out scratch') k
-      ∙ ap (went (Err e) u out) (s ∙ ap (λ b. cond b (cleared scratch) scratch) (scratch_room out scratch h))
-      ∙ sym (ap (finished t u out scratch no_seals) (r no_seals.first))
-      ∙ sym (ap (λ b. cond b (finished t u out scratch no_seals (rule no_seals.first)) (went (Err no_room) u out scratch)) h);
-  sealed = λ o. absurd (false_true o);
 }
 
 -- ---- a scratch buffer that was cleared before the call

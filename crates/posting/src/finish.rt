@@ -3,22 +3,21 @@ ghost use Rattle.std.specs.Prelude.{◌≡◌, Bool, true, is_ok};
 ghost use Rattle.posting.specs.Calls as Calls;
 ghost use Rattle.posting.specs.Posting.{seals_in, are_words};
 
-use crate::few::{AtMostTwo, Posted};
+use crate::few::Posted;
 use crate::post::post;
+use crate::replies::{CallResult, Reply};
 use crate::room::refused_by_rule;
-use letters::bodies::Body;
-use letters::certificates::{Basis, Certificate};
 use schemes::scheme::Scheme;
 use seals::clearing::clear;
 use terms::numbers::Change;
-use terms::refusals::{Refusal, RuleCause};
+use terms::refusals::Refusal;
 
 // Answers what a rule replied: posts what is to be sent, or refuses. The scratch buffer
 // is clear afterwards.
 pub fn finish<S: Scheme>(
     scheme: &S,
     change: Change,
-    reply: Result<AtMostTwo<Body<Certificate, Basis>>, RuleCause>,
+    reply: Reply,
     sender: usize,
     scratch: &mut [u8],
     out: &mut [u8],
@@ -37,7 +36,7 @@ pub fn finish<S: Scheme>(
 }
 
 // What a caller is told of it.
-pub fn answer(posted: Result<Posted, Refusal>) -> Result<AtMostTwo<usize>, Refusal>
+pub fn answer(posted: Result<Posted, Refusal>) -> CallResult
     ensures { result ≡ Calls.answered posted }
 {
     posted.map(|posted| posted.lengths)

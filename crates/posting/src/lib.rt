@@ -4,4 +4,5 @@
 pub mod few;
 pub mod finish;
 pub mod post;
+pub mod replies;
 pub mod room;

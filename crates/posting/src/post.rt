@@ -11,8 +11,8 @@ ghost use Rattle.posting.specs.Posting.{seals_in, are_words, all_sealed, post_an
 ghost use Rattle.posting.specs.declared.few.AtMostTwo.TheVariants.{One, Two};
 
 use crate::few::{AtMostTwo, Posted, Seals};
-use letters::bodies::{Body, Letter};
-use letters::certificates::{Basis, Certificate};
+use crate::replies::Bodies;
+use letters::bodies::{Letter, WholeBody};
 use letters::sorts::Seal;
 use schemes::scheme::Scheme;
 use seals::clearing::clear;
@@ -22,7 +22,7 @@ use terms::refusals::{Refusal, no_room};
 use writing::whole::length_of;
 
 // How long a letter is, under whatever seal.
-fn unsealed_length(change: Change, body: Body<Certificate, Basis>) -> usize
+fn unsealed_length(change: Change, body: WholeBody) -> usize
     ensures { result ≡ length (layout (letter change body (seal 0))) }
 {
     length_of(&Letter {
@@ -36,7 +36,7 @@ fn unsealed_length(change: Change, body: Body<Certificate, Basis>) -> usize
 fn post_one<S: Scheme>(
     scheme: &S,
     change: Change,
-    body: Body<Certificate, Basis>,
+    body: WholeBody,
     scratch: &mut [u8],
     out: &mut [u8],
 ) -> Seal
@@ -56,7 +56,7 @@ fn post_one<S: Scheme>(
 fn post_alone<S: Scheme>(
     scheme: &S,
     change: Change,
-    body: Body<Certificate, Basis>,
+    body: WholeBody,
     scratch: &mut [u8],
     out: &mut [u8],
 ) -> Result<Posted, Refusal>
@@ -83,11 +83,12 @@ fn post_alone<S: Scheme>(
 }
 
 // The second letter goes into the tail of the output buffer, after the first.
+#[tactic(auto, using(crate::proofs::Writes::cleared_twice))]
 fn post_two<S: Scheme>(
     scheme: &S,
     change: Change,
-    first: Body<Certificate, Basis>,
-    second: Body<Certificate, Basis>,
+    first: WholeBody,
+    second: WholeBody,
     scratch: &mut [u8],
     out: &mut [u8],
 ) -> Result<Posted, Refusal>
@@ -119,7 +120,7 @@ fn post_two<S: Scheme>(
 pub fn post<S: Scheme>(
     scheme: &S,
     change: Change,
-    bodies: AtMostTwo<Body<Certificate, Basis>>,
+    bodies: Bodies,
     scratch: &mut [u8],
     out: &mut [u8],
 ) -> Result<Posted, Refusal>

@@ -5,7 +5,7 @@ ghost use Rattle.reading.specs.Parts.{told};
 ghost use Rattle.reading.specs.Reads.{ReadsBody};
 
 use crate::fields::{Reader, checked, refusal};
-use crate::parts::{Grounds, Part};
+use crate::parts::{ReadBody, ReadLetter};
 use letters::bodies::{Body, Letter};
 use letters::maps::{
     ANSWER, BASIS, BASIS_BIT, CERTIFICATE, COMMON, DIGEST, MOVERS, MOVERS_BIT, NUMBER, NUMBER_BIT,
@@ -16,8 +16,8 @@ use terms::numbers::{Change, Seat, View};
 use terms::refusals::{FormCause, Refusal};
 use terms::sizes::Sizes;
 
-// What a letter says, with its certificate and its basis as parts of the bytes, or a refusal.
-type ReadBody<'a> = Result<Body<Part<'a>, Grounds<'a>>, Refusal>;
+// What a letter says, or a refusal.
+type BodyResult<'a> = Result<ReadBody<'a>, Refusal>;
 
 // A map fits a kind if the kind's bits stand, and no others but those that may.
 fn fits(kind: Kind, map: u16) -> bool
@@ -61,14 +61,14 @@ fn proposal_view_fits(sizes: Sizes, change: Change, view: View, seat: Seat, move
 }
 
 impl<'a> Reader<'a> {
-    fn take_enrol(&mut self, sizes: Sizes) -> ReadBody<'a>
+    fn take_enrol(&mut self, sizes: Sizes) -> BodyResult<'a>
         ensures { ReadsBody (Form.enrol_body sizes) self.old self.new result }
     {
         let sender = self.take_lock(sizes)?;
         Ok(Body::Enrol { sender })
     }
 
-    fn take_receipt(&mut self, sizes: Sizes) -> ReadBody<'a>
+    fn take_receipt(&mut self, sizes: Sizes) -> BodyResult<'a>
         ensures { ReadsBody (Form.receipt_body sizes) self.old self.new result }
     {
         let sender = self.take_controller(sizes)?;
@@ -76,7 +76,7 @@ impl<'a> Reader<'a> {
         Ok(Body::Receipt { sender, place })
     }
 
-    fn take_order(&mut self, sizes: Sizes, map: u16) -> ReadBody<'a>
+    fn take_order(&mut self, sizes: Sizes, map: u16) -> BodyResult<'a>
         ensures { ReadsBody (Form.order_body sizes map) self.old self.new result }
     {
         self.take_office(sizes)?;
@@ -84,7 +84,7 @@ impl<'a> Reader<'a> {
         Ok(Body::Order { number })
     }
 
-    fn take_summons(&mut self, sizes: Sizes) -> ReadBody<'a>
+    fn take_summons(&mut self, sizes: Sizes) -> BodyResult<'a>
         ensures { ReadsBody (Form.summons_body sizes) self.old self.new result }
     {
         let sender = self.take_controller(sizes)?;
@@ -97,7 +97,7 @@ impl<'a> Reader<'a> {
         })
     }
 
-    fn take_vote(&mut self, sizes: Sizes) -> ReadBody<'a>
+    fn take_vote(&mut self, sizes: Sizes) -> BodyResult<'a>
         ensures { ReadsBody (Form.vote_body sizes) self.old self.new result }
     {
         let sender = self.take_lock(sizes)?;
@@ -110,7 +110,7 @@ impl<'a> Reader<'a> {
         })
     }
 
-    fn take_proposal(&mut self, sizes: Sizes, change: Change, map: u16) -> ReadBody<'a>
+    fn take_proposal(&mut self, sizes: Sizes, change: Change, map: u16) -> BodyResult<'a>
         ensures { ReadsBody (Form.proposal_body sizes change map) self.old self.new result }
     {
         let sender = self.take_controller(sizes)?;
@@ -130,7 +130,7 @@ impl<'a> Reader<'a> {
         })
     }
 
-    fn take_assent(&mut self, sizes: Sizes, change: Change, map: u16) -> ReadBody<'a>
+    fn take_assent(&mut self, sizes: Sizes, change: Change, map: u16) -> BodyResult<'a>
         ensures { ReadsBody (Form.assent_body sizes change map) self.old self.new result }
     {
         let sender = self.take_controller(sizes)?;
@@ -147,7 +147,7 @@ impl<'a> Reader<'a> {
         })
     }
 
-    fn take_confirm(&mut self, sizes: Sizes, map: u16) -> ReadBody<'a>
+    fn take_confirm(&mut self, sizes: Sizes, map: u16) -> BodyResult<'a>
         ensures { ReadsBody (Form.confirm_body sizes map) self.old self.new result }
     {
         let sender = self.take_controller(sizes)?;
@@ -162,7 +162,7 @@ impl<'a> Reader<'a> {
         })
     }
 
-    fn take_result(&mut self, sizes: Sizes, map: u16) -> ReadBody<'a>
+    fn take_result(&mut self, sizes: Sizes, map: u16) -> BodyResult<'a>
         ensures { ReadsBody (Form.result_body sizes map) self.old self.new result }
     {
         let sender = self.take_controller(sizes)?;
@@ -170,7 +170,7 @@ impl<'a> Reader<'a> {
         Ok(Body::Result { sender, outcome })
     }
 
-    fn take_move(&mut self, sizes: Sizes, change: Change, map: u16) -> ReadBody<'a>
+    fn take_move(&mut self, sizes: Sizes, change: Change, map: u16) -> BodyResult<'a>
         ensures { ReadsBody (Form.move_body sizes change map) self.old self.new result }
     {
         let sender = self.take_controller(sizes)?;
@@ -191,7 +191,7 @@ impl<'a> Reader<'a> {
         })
     }
 
-    fn take_body(&mut self, sizes: Sizes, change: Change, map: u16, kind: Kind) -> ReadBody<'a>
+    fn take_body(&mut self, sizes: Sizes, change: Change, map: u16, kind: Kind) -> BodyResult<'a>
         ensures { ReadsBody (Form.body_field sizes change map kind) self.old self.new result }
     {
         match kind {
@@ -210,7 +210,7 @@ impl<'a> Reader<'a> {
 }
 
 // The letter in the bytes, for a vault of these sizes.
-pub fn read<'a>(sizes: Sizes, bytes: &'a [u8]) -> Result<Letter<Part<'a>, Grounds<'a>>, Refusal>
+pub fn read<'a>(sizes: Sizes, bytes: &'a [u8]) -> Result<ReadLetter<'a>, Refusal>
     ensures { told result ≡ Form.read sizes bytes.now }
 {
     let mut reader = Reader { bytes, at: 0 };

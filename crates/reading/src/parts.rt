@@ -1,4 +1,5 @@
 // Parts of a letter's bytes.
+use letters::bodies::{Body, Letter};
 use terms::parties::Outcome;
 
 // A part of a letter's bytes, and its offset in the letter.
@@ -15,3 +16,9 @@ pub struct Grounds<'a> {
     pub basis: Part<'a>,
     pub certificate: Part<'a>,
 }
+
+// What a letter says that was read: its certificate and its basis are parts of its bytes.
+pub type ReadBody<'a> = Body<Part<'a>, Grounds<'a>>;
+
+// A letter that was read.
+pub type ReadLetter<'a> = Letter<Part<'a>, Grounds<'a>>;

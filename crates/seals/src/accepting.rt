@@ -6,7 +6,7 @@ ghost use Rattle.seals.specs.Opening as Opening;
 
 use crate::guard::{Room, accepts};
 use crate::rows::{Assents, Enrolments, SealRows, Votes};
-use letters::bodies::Body;
+use letters::bodies::{Body, WholeBody};
 use letters::certificates::{Basis, Certificate};
 use letters::senders::sender_of;
 use letters::sorts::{Seal, SeatSet};
@@ -176,11 +176,7 @@ impl<S: Scheme> Judge<'_, S> {
 
     // The seals inside a letter.
     #[tactic(auto, using(crate::proofs::Accepts::accept_steps))]
-    fn accept_inner(
-        &self,
-        room: &mut Room,
-        body: &Body<Certificate, Basis>,
-    ) -> Result<usize, Refusal>
+    fn accept_inner(&self, room: &mut Room, body: &WholeBody) -> Result<usize, Refusal>
         ensures { result ≡ Opening.accept_all (S.Scheme.holds self.now.scheme.now) (inner_borne self.now.sizes self.now.change body.now) 0 }
     {
         match body {
@@ -202,7 +198,7 @@ impl<S: Scheme> Judge<'_, S> {
     pub(crate) fn accept_letter(
         &self,
         room: &mut Room,
-        body: &Body<Certificate, Basis>,
+        body: &WholeBody,
         seal: Seal,
     ) -> Result<usize, Refusal>
         ensures { result ≡ Opening.accept_letter self.now.sizes (S.Scheme.holds self.now.scheme.now) self.now.change body.now seal }
@@ -216,7 +212,7 @@ impl<S: Scheme> Judge<'_, S> {
 }
 
 // The seal of a letter's sender.
-pub(crate) fn sender_borne(change: Change, body: &Body<Certificate, Basis>, seal: Seal) -> Borne
+pub(crate) fn sender_borne(change: Change, body: &WholeBody, seal: Seal) -> Borne
     ensures { result ≡ Opening.sender_borne change body.now seal }
 {
     Borne {

@@ -8,8 +8,7 @@ ghost use Rattle.seals.specs.Scratch.{scratch_after};
 use crate::accepting::Judge;
 use crate::guard::{Guard, Room};
 use kept::keep;
-use letters::bodies::Letter;
-use reading::parts::{Grounds, Part};
+use reading::parts::ReadLetter;
 use reading::read;
 use schemes::scheme::Scheme;
 use terms::refusals::{Refusal, no_room};
@@ -18,12 +17,12 @@ use terms::sizes::Sizes;
 // A letter whose form and seals were accepted. Only opening makes one; it is
 // neither copied nor let go, so that one rule spends it.
 pub struct Opened<'a> {
-    letter: Letter<Part<'a>, Grounds<'a>>,
+    letter: ReadLetter<'a>,
 }
 
 impl<'a> Opened<'a> {
     // Hands the letter over to the rule that it is for.
-    pub fn spend(self) -> Letter<Part<'a>, Grounds<'a>>
+    pub fn spend(self) -> ReadLetter<'a>
         ensures { shown result ≡ shown self.entry.letter }
     {
         let Opened { letter } = self;

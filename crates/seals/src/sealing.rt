@@ -10,8 +10,7 @@ ghost use Rattle.seals.specs.Sealing.{seal_in, seal_answer, seal_of, send_answer
 
 use crate::accepting::sender_borne;
 use crate::guard::{Guard, Room, make_seal};
-use letters::bodies::{Body, Letter};
-use letters::certificates::{Basis, Certificate};
+use letters::bodies::{Letter, WholeBody, WholeLetter};
 use letters::sorts::Seal;
 use schemes::scheme::Scheme;
 use terms::numbers::Change;
@@ -26,12 +25,7 @@ pub struct Sent {
 }
 
 // The sender's seal on what the letter says.
-fn sender_seal<S: Scheme>(
-    scheme: &S,
-    change: Change,
-    body: &Body<Certificate, Basis>,
-    room: &mut Room,
-) -> Seal
+fn sender_seal<S: Scheme>(scheme: &S, change: Change, body: &WholeBody, room: &mut Room) -> Seal
     ensures sealed { accepted (S.Scheme.holds scheme.now) (sender_borne change body.now result) ≡ true }
     ensures room_cleared { room.new ≡ replicate 24 0 }
 {
@@ -45,9 +39,9 @@ fn sender_seal<S: Scheme>(
 pub fn seal_letter<S: Scheme>(
     scheme: &S,
     change: Change,
-    body: Body<Certificate, Basis>,
+    body: WholeBody,
     scratch: &mut [u8],
-) -> Result<Letter<Certificate, Basis>, Refusal>
+) -> Result<WholeLetter, Refusal>
     ensures answer { result ≡ seal_answer change body (seal_in result) scratch.old }
     ensures sealed { roomy scratch.old ≡ true → accepted (S.Scheme.holds scheme.now) (sender_borne change body (seal_in result)) ≡ true }
     ensures scratch_cleared { scratch.new ≡ scratch_after scratch.old }
@@ -64,7 +58,7 @@ pub fn seal_letter<S: Scheme>(
 fn seal_into<S: Scheme>(
     scheme: &S,
     change: Change,
-    body: &Body<Certificate, Basis>,
+    body: &WholeBody,
     room: &mut Room,
     out: &mut [u8],
 ) -> Seal
@@ -90,7 +84,7 @@ fn seal_into<S: Scheme>(
 pub fn send<S: Scheme>(
     scheme: &S,
     change: Change,
-    body: Body<Certificate, Basis>,
+    body: WholeBody,
     scratch: &mut [u8],
     out: &mut [u8],
 ) -> Result<Sent, Refusal>

@@ -8,7 +8,7 @@ use crate::vault::Vault;
 use boards::board::Board;
 use controllers::controller::Controller;
 use locks::lock::Lock;
-use posting::few::AtMostTwo;
+use posting::replies::CallResult;
 use schemes::scheme::Scheme;
 use terms::refusals::{CallCause, Cause, Refusal};
 
@@ -58,7 +58,7 @@ impl Vault {
         seat: u32,
         scratch: &mut [u8],
         out: &mut [u8],
-    ) -> Result<AtMostTwo<usize>, Refusal>
+    ) -> CallResult
         ensures { Calls.Step (Vaults.constant self.now (S.Scheme.holds scheme.now)) (Vaults.state controllers.old locks.now self.now (B.Board.meaning board.now)) (Vaults.call (Calls.rings seat) out.old scratch.old) (Calls.went result (Vaults.state controllers.new locks.now self.now (B.Board.meaning board.now)) out.new scratch.new) }
     {
         let at = self.seat_at(seat, controllers.len())?;
@@ -74,7 +74,7 @@ impl Vault {
         seat: u32,
         scratch: &mut [u8],
         out: &mut [u8],
-    ) -> Result<AtMostTwo<usize>, Refusal>
+    ) -> CallResult
         ensures { Calls.Step (Vaults.constant self.now (S.Scheme.holds scheme.now)) (Vaults.state controllers.old locks.now self.now (B.Board.meaning board.now)) (Vaults.call (Calls.proposes seat) out.old scratch.old) (Calls.went result (Vaults.state controllers.new locks.now self.now (B.Board.meaning board.now)) out.new scratch.new) }
     {
         let at = self.seat_at(seat, controllers.len())?;
@@ -90,7 +90,7 @@ impl Vault {
         place: u32,
         scratch: &mut [u8],
         out: &mut [u8],
-    ) -> Result<AtMostTwo<usize>, Refusal>
+    ) -> CallResult
         ensures { Calls.Step (Vaults.constant self.now (S.Scheme.holds scheme.now)) (Vaults.state controllers.now locks.old self.now (B.Board.meaning board.now)) (Vaults.call (Calls.enrols place) out.old scratch.old) (Calls.went result (Vaults.state controllers.now locks.new self.now (B.Board.meaning board.now)) out.new scratch.new) }
     {
         let at = self.place_at(place, locks.len())?;
@@ -106,7 +106,7 @@ impl Vault {
         place: u32,
         scratch: &mut [u8],
         out: &mut [u8],
-    ) -> Result<AtMostTwo<usize>, Refusal>
+    ) -> CallResult
         ensures { Calls.Step (Vaults.constant self.now (S.Scheme.holds scheme.now)) (Vaults.state controllers.now locks.old self.now (B.Board.meaning board.now)) (Vaults.call (Calls.declines place) out.old scratch.old) (Calls.went result (Vaults.state controllers.now locks.new self.now (B.Board.meaning board.now)) out.new scratch.new) }
     {
         let at = self.place_at(place, locks.len())?;
@@ -122,7 +122,7 @@ impl Vault {
         number: Option<u32>,
         scratch: &mut [u8],
         out: &mut [u8],
-    ) -> Result<AtMostTwo<usize>, Refusal>
+    ) -> CallResult
         ensures sizes_and_change_stay { Vaults.same_vault self.new self.old }
         ensures by_the_rules { Calls.Step (Vaults.constant self.old (S.Scheme.holds scheme.now)) (Vaults.state controllers.now locks.now self.old (B.Board.meaning board.now)) (Vaults.call (Calls.orders number) out.old scratch.old) (Calls.went result (Vaults.state controllers.now locks.now self.new (B.Board.meaning board.now)) out.new scratch.new) }
     {

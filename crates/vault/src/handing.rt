@@ -9,13 +9,12 @@ use crate::vault::Vault;
 use boards::board::Board;
 use controllers::controller::Controller;
 use locks::lock::Lock;
-use posting::few::AtMostTwo;
+use posting::replies::CallResult;
 use posting::room::require_room;
 use schemes::scheme::Scheme;
 use seals::opening::open;
 use terms::numbers::{Place, Seat};
 use terms::parties::Party;
-use terms::refusals::Refusal;
 
 impl Vault {
     // A lock's tests are alike: a shared function would have to tell what opening leaves of the scratch buffer.
@@ -30,7 +29,7 @@ impl Vault {
         scratch: &mut [u8],
         out: &mut [u8],
         unit: u32,
-    ) -> Result<AtMostTwo<usize>, Refusal>
+    ) -> CallResult
         ensures { Vaults.Turned (Vaults.constant self.now (S.Scheme.holds scheme.now)) (Vaults.state controllers.old locks.now self.now (B.Board.meaning board.now)) (Vaults.call (Calls.hands_in unit bytes.now) out.old scratch.old) (Vaults.handed (Vaults.constant self.now (S.Scheme.holds scheme.now)) (Vaults.state controllers.old locks.now self.now (B.Board.meaning board.now)) (Vaults.call (Calls.hands_in unit bytes.now) out.old scratch.old) bytes.now (Some (Party.Controller seat))) (Calls.went result (Vaults.state controllers.new locks.now self.now (B.Board.meaning board.now)) out.new scratch.new) }
     {
         let at = seat.number() as usize;
@@ -53,7 +52,7 @@ impl Vault {
         scratch: &mut [u8],
         out: &mut [u8],
         unit: u32,
-    ) -> Result<AtMostTwo<usize>, Refusal>
+    ) -> CallResult
         ensures { Vaults.Turned (Vaults.constant self.now (S.Scheme.holds scheme.now)) (Vaults.state controllers.now locks.old self.now (B.Board.meaning board.old)) (Vaults.call (Calls.hands_in unit bytes.now) out.old scratch.old) (Vaults.handed (Vaults.constant self.now (S.Scheme.holds scheme.now)) (Vaults.state controllers.now locks.old self.now (B.Board.meaning board.old)) (Vaults.call (Calls.hands_in unit bytes.now) out.old scratch.old) bytes.now (Some (Party.Lock place))) (Calls.went result (Vaults.state controllers.now locks.new self.now (B.Board.meaning board.new)) out.new scratch.new) }
     {
         let at = place.number() as usize;
@@ -75,7 +74,7 @@ impl Vault {
         bytes: &[u8],
         scratch: &mut [u8],
         out: &mut [u8],
-    ) -> Result<AtMostTwo<usize>, Refusal>
+    ) -> CallResult
         ensures { Calls.Step (Vaults.constant self.now (S.Scheme.holds scheme.now)) (Vaults.state controllers.old locks.old self.now (B.Board.meaning board.old)) (Vaults.call (Calls.hands_in unit bytes.now) out.old scratch.old) (Calls.went result (Vaults.state controllers.new locks.new self.now (B.Board.meaning board.new)) out.new scratch.new) }
     {
         match self.sizes.party(unit) {

@@ -9,9 +9,8 @@ use crate::vault::Vault;
 use boards::board::Board;
 use controllers::controller::Controller;
 use locks::lock::Lock;
-use posting::few::AtMostTwo;
+use posting::replies::CallResult;
 use schemes::scheme::Scheme;
-use terms::refusals::Refusal;
 
 impl Vault {
     // The office orders a number for all doors; without a number, that the change is cancelled.
@@ -24,7 +23,7 @@ impl Vault {
         number: Option<u32>,
         scratch: &mut [u8],
         out: &mut [u8],
-    ) -> Result<AtMostTwo<usize>, Refusal>
+    ) -> CallResult
         ensures sizes_and_change_stay { Vaults.same_vault self.new self.old }
         ensures by_the_rules { Calls.Step (Vaults.constant self.old (S.Scheme.holds scheme.now)) (Vaults.state controllers.now locks.now self.old (B.Board.meaning board.now)) (Vaults.call (Calls.orders number) out.old scratch.old) (Calls.went result (Vaults.state controllers.now locks.now self.new (B.Board.meaning board.now)) out.new scratch.new) }
         ensures honest_locks_share_one_result { Laws.ShareOneResult (Vaults.constant self.old (S.Scheme.holds scheme.now)) (Vaults.state controllers.now locks.now self.old (B.Board.meaning board.now)) (Vaults.call (Calls.orders number) out.old scratch.old) (Calls.went result (Vaults.state controllers.now locks.now self.new (B.Board.meaning board.now)) out.new scratch.new) }
@@ -45,7 +44,7 @@ impl Vault {
         place: u32,
         scratch: &mut [u8],
         out: &mut [u8],
-    ) -> Result<AtMostTwo<usize>, Refusal>
+    ) -> CallResult
         ensures by_the_rules { Calls.Step (Vaults.constant self.now (S.Scheme.holds scheme.now)) (Vaults.state controllers.now locks.old self.now (B.Board.meaning board.now)) (Vaults.call (Calls.enrols place) out.old scratch.old) (Calls.went result (Vaults.state controllers.now locks.new self.now (B.Board.meaning board.now)) out.new scratch.new) }
         ensures honest_locks_share_one_result { Laws.ShareOneResult (Vaults.constant self.now (S.Scheme.holds scheme.now)) (Vaults.state controllers.now locks.old self.now (B.Board.meaning board.now)) (Vaults.call (Calls.enrols place) out.old scratch.old) (Calls.went result (Vaults.state controllers.now locks.new self.now (B.Board.meaning board.now)) out.new scratch.new) }
         ensures enrolled_locks_voted_ready { Laws.VotedReadyIfEnrolled (Vaults.constant self.now (S.Scheme.holds scheme.now)) (Vaults.state controllers.now locks.old self.now (B.Board.meaning board.now)) (Vaults.call (Calls.enrols place) out.old scratch.old) (Calls.went result (Vaults.state controllers.now locks.new self.now (B.Board.meaning board.now)) out.new scratch.new) }
@@ -65,7 +64,7 @@ impl Vault {
         place: u32,
         scratch: &mut [u8],
         out: &mut [u8],
-    ) -> Result<AtMostTwo<usize>, Refusal>
+    ) -> CallResult
         ensures by_the_rules { Calls.Step (Vaults.constant self.now (S.Scheme.holds scheme.now)) (Vaults.state controllers.now locks.old self.now (B.Board.meaning board.now)) (Vaults.call (Calls.declines place) out.old scratch.old) (Calls.went result (Vaults.state controllers.now locks.new self.now (B.Board.meaning board.now)) out.new scratch.new) }
         ensures honest_locks_share_one_result { Laws.ShareOneResult (Vaults.constant self.now (S.Scheme.holds scheme.now)) (Vaults.state controllers.now locks.old self.now (B.Board.meaning board.now)) (Vaults.call (Calls.declines place) out.old scratch.old) (Calls.went result (Vaults.state controllers.now locks.new self.now (B.Board.meaning board.now)) out.new scratch.new) }
         ensures enrolled_locks_voted_ready { Laws.VotedReadyIfEnrolled (Vaults.constant self.now (S.Scheme.holds scheme.now)) (Vaults.state controllers.now locks.old self.now (B.Board.meaning board.now)) (Vaults.call (Calls.declines place) out.old scratch.old) (Calls.went result (Vaults.state controllers.now locks.new self.now (B.Board.meaning board.now)) out.new scratch.new) }
@@ -85,7 +84,7 @@ impl Vault {
         seat: u32,
         scratch: &mut [u8],
         out: &mut [u8],
-    ) -> Result<AtMostTwo<usize>, Refusal>
+    ) -> CallResult
         ensures by_the_rules { Calls.Step (Vaults.constant self.now (S.Scheme.holds scheme.now)) (Vaults.state controllers.old locks.now self.now (B.Board.meaning board.now)) (Vaults.call (Calls.rings seat) out.old scratch.old) (Calls.went result (Vaults.state controllers.new locks.now self.now (B.Board.meaning board.now)) out.new scratch.new) }
         ensures honest_locks_share_one_result { Laws.ShareOneResult (Vaults.constant self.now (S.Scheme.holds scheme.now)) (Vaults.state controllers.old locks.now self.now (B.Board.meaning board.now)) (Vaults.call (Calls.rings seat) out.old scratch.old) (Calls.went result (Vaults.state controllers.new locks.now self.now (B.Board.meaning board.now)) out.new scratch.new) }
         ensures enrolled_locks_voted_ready { Laws.VotedReadyIfEnrolled (Vaults.constant self.now (S.Scheme.holds scheme.now)) (Vaults.state controllers.old locks.now self.now (B.Board.meaning board.now)) (Vaults.call (Calls.rings seat) out.old scratch.old) (Calls.went result (Vaults.state controllers.new locks.now self.now (B.Board.meaning board.now)) out.new scratch.new) }
@@ -105,7 +104,7 @@ impl Vault {
         seat: u32,
         scratch: &mut [u8],
         out: &mut [u8],
-    ) -> Result<AtMostTwo<usize>, Refusal>
+    ) -> CallResult
         ensures by_the_rules { Calls.Step (Vaults.constant self.now (S.Scheme.holds scheme.now)) (Vaults.state controllers.old locks.now self.now (B.Board.meaning board.now)) (Vaults.call (Calls.proposes seat) out.old scratch.old) (Calls.went result (Vaults.state controllers.new locks.now self.now (B.Board.meaning board.now)) out.new scratch.new) }
         ensures honest_locks_share_one_result { Laws.ShareOneResult (Vaults.constant self.now (S.Scheme.holds scheme.now)) (Vaults.state controllers.old locks.now self.now (B.Board.meaning board.now)) (Vaults.call (Calls.proposes seat) out.old scratch.old) (Calls.went result (Vaults.state controllers.new locks.now self.now (B.Board.meaning board.now)) out.new scratch.new) }
         ensures enrolled_locks_voted_ready { Laws.VotedReadyIfEnrolled (Vaults.constant self.now (S.Scheme.holds scheme.now)) (Vaults.state controllers.old locks.now self.now (B.Board.meaning board.now)) (Vaults.call (Calls.proposes seat) out.old scratch.old) (Calls.went result (Vaults.state controllers.new locks.now self.now (B.Board.meaning board.now)) out.new scratch.new) }
@@ -126,7 +125,7 @@ impl Vault {
         bytes: &[u8],
         scratch: &mut [u8],
         out: &mut [u8],
-    ) -> Result<AtMostTwo<usize>, Refusal>
+    ) -> CallResult
         ensures by_the_rules { Calls.Step (Vaults.constant self.now (S.Scheme.holds scheme.now)) (Vaults.state controllers.old locks.old self.now (B.Board.meaning board.old)) (Vaults.call (Calls.hands_in unit bytes.now) out.old scratch.old) (Calls.went result (Vaults.state controllers.new locks.new self.now (B.Board.meaning board.new)) out.new scratch.new) }
         ensures honest_locks_share_one_result { Laws.ShareOneResult (Vaults.constant self.now (S.Scheme.holds scheme.now)) (Vaults.state controllers.old locks.old self.now (B.Board.meaning board.old)) (Vaults.call (Calls.hands_in unit bytes.now) out.old scratch.old) (Calls.went result (Vaults.state controllers.new locks.new self.now (B.Board.meaning board.new)) out.new scratch.new) }
         ensures enrolled_locks_voted_ready { Laws.VotedReadyIfEnrolled (Vaults.constant self.now (S.Scheme.holds scheme.now)) (Vaults.state controllers.old locks.old self.now (B.Board.meaning board.old)) (Vaults.call (Calls.hands_in unit bytes.now) out.old scratch.old) (Calls.went result (Vaults.state controllers.new locks.new self.now (B.Board.meaning board.new)) out.new scratch.new) }

@@ -6,7 +6,7 @@ ghost use Rattle.letters.specs.Layout as Layout;
 use crate::certificates::{certificate_draft, number_draft};
 use crate::drafts::Draft;
 use crate::maps::map_of;
-use letters::bodies::Body;
+use letters::bodies::{Body, WholeBody};
 use letters::certificates::{Basis, Certificate};
 use letters::maps::{
     ANSWER, BASIS, CERTIFICATE, COMMON, DIGEST, MOVERS, NUMBER, OFFICE_SEAL, PLACE, VIEW,
@@ -192,7 +192,7 @@ fn move_draft(change: Change, sender: Seat, view: View, basis: &Option<Basis>) -
     draft
 }
 
-pub(crate) fn body_draft(change: Change, body: &Body<Certificate, Basis>) -> BodyDraft
+pub(crate) fn body_draft(change: Change, body: &WholeBody) -> BodyDraft
     ensures { result ≡ Layout.body_bytes change body.now }
 {
     match *body {

@@ -3,8 +3,8 @@ ghost use Rattle.std.specs.Prelude.{◌≡◌};
 ghost use Rattle.letters.specs.Bodies.{brief_of, in_brief};
 
 use crate::certificates::certificate_digest;
-use letters::bodies::{Body, Brief};
-use letters::certificates::{Basis, Certificate};
+use letters::bodies::{Body, Brief, WholeBody};
+use letters::certificates::Basis;
 use letters::sorts::Digest;
 
 fn brief_of(basis: &Basis) -> Brief
@@ -18,7 +18,7 @@ fn brief_of(basis: &Basis) -> Brief
 }
 
 // The same letter, with a digest for its certificate and a brief for its basis.
-pub fn in_brief(body: &Body<Certificate, Basis>) -> Body<Digest, Brief>
+pub fn in_brief(body: &WholeBody) -> Body<Digest, Brief>
     ensures { result ≡ in_brief body.now }
 {
     body.retold(

@@ -6,13 +6,12 @@ ghost use Rattle.writing.specs.Writing.{write_answer, both_answer, write_buffer}
 
 use crate::bodies::body_draft;
 use crate::drafts::Draft;
-use letters::bodies::Letter;
-use letters::certificates::{Basis, Certificate};
+use letters::bodies::WholeLetter;
 use terms::refusals::{Refusal, no_room};
 use terms::sizes::Sizes;
 
 // No letter is longer, even with a seal in every row: 301 bytes.
-fn letter_draft(letter: &Letter<Certificate, Basis>) -> Draft<301>
+fn letter_draft(letter: &WholeLetter) -> Draft<301>
     ensures { result ≡ layout letter.now }
 {
     let mut draft = Draft::new();
@@ -22,7 +21,7 @@ fn letter_draft(letter: &Letter<Certificate, Basis>) -> Draft<301>
 }
 
 // How many bytes the letter has.
-pub fn length_of(letter: &Letter<Certificate, Basis>) -> usize
+pub fn length_of(letter: &WholeLetter) -> usize
     ensures { result ≡ length (layout letter.now) }
 {
     letter_draft(letter).len()
@@ -30,7 +29,7 @@ pub fn length_of(letter: &Letter<Certificate, Basis>) -> usize
 
 // Writes the letter over the start of a buffer, and says how long it is. Where there is
 // no room for all of it, nothing is written.
-pub fn write(letter: &Letter<Certificate, Basis>, out: &mut [u8]) -> Result<usize, Refusal>
+pub fn write(letter: &WholeLetter, out: &mut [u8]) -> Result<usize, Refusal>
     ensures answer { result ≡ write_answer (layout letter.now) out.old }
     ensures buffer { out.new ≡ write_buffer (layout letter.now) out.old }
 {
@@ -40,8 +39,8 @@ pub fn write(letter: &Letter<Certificate, Basis>, out: &mut [u8]) -> Result<usiz
 // Writes two letters, the second right after the first, and says how long each is. Where
 // there is no room for both, nothing is written.
 pub fn write_both(
-    first: &Letter<Certificate, Basis>,
-    second: &Letter<Certificate, Basis>,
+    first: &WholeLetter,
+    second: &WholeLetter,
     out: &mut [u8],
 ) -> Result<(usize, usize), Refusal>
     ensures answer { result ≡ both_answer (layout first.now) (layout second.now) out.old }

@@ -5,9 +5,8 @@ use Rattle.std.proofs.lemmas.Fn.{fold_over}
 use Rattle.std.proofs.lemmas.Iterator.{YieldsList-from_range}
 use Rattle.std.proofs.lemmas.List.Sums.{fold-append}
 use Rattle.letters.specs.declared.certificates.Basis.{Basis}
-use Rattle.controllers.specs.Choice.{stands_in, offer, better, best}
-use Rattle.controllers.proofs.Below.{fold_below}
-use Rattle.controllers.proofs.Steps.{best_none, best_more}
+use Rattle.controllers.specs.Choice.{stands_in, offer, better}
+use Rattle.controllers.proofs.Steps.{best_folded}
 use Rattle.controllers.proofs.counts.choose.Goals as goal
 
 pub returns : goal.returns
@@ -19,4 +18,4 @@ returns c =
     fold_over nat_range_steps (λ x. x) _ (λ ys a. a ≡ fold step None ys) _
     (λ ys a x b f' j k. let more = ap (λ y. step y x) j ∙ sym (fold-append step None ys (x ∷ [])) in search (rules, tests))
     (record { start = 0; end = 16 }) (range_with_len 0 16) None c.fold.result (YieldsList-from_range 0 16 16 refl refl).runs refl c.fold.ensures.ran
-    ∙ fold_below step None (best records movers v) (best_none records movers v) (best_more records movers v) 16
+    ∙ best_folded records movers v

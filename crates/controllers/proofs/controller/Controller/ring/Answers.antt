@@ -1,19 +1,14 @@
-use Rattle.std.proofs.Common.{ap, ◌∙◌, rules}
+use Rattle.std.proofs.Common.{ap, ◌∙◌}
 use Rattle.posting.specs.Calls.{keeping}
-use Rattle.posting.proofs.Goes.{goes_nowhere, goes-copied, has_room_lem, has_no_room}
+use Rattle.posting.proofs.Goes.{goes-copied}
 use Rattle.controllers.specs.Rules.{ring_rule}
 use Rattle.controllers.proofs.controller.Controller.ring.Goals as goal
-
-pub returns-in_err-require_room : goal.returns-in_err-require_room
-returns-in_err-require_room g c =
-    goes_nowhere _ c.args.change c.args.self.now c.args.out.now c.args.scratch.now _ _
-    (has_no_room c.args.out.now c.args.scratch.now _ c.in_err-require_room.ensures) (search rules)
 
 pub returns : goal.returns
 returns g c =
     let u = c.args.self.now in
     let a = c.finish-posted.result in
     goes-copied c.args.change 0 u c.args.out.now c.args.scratch.now _ (λ z. ring_rule u) _ a _ _ _ _
-    (has_room_lem c.args.out.now c.args.scratch.now _ c.in_ok-require_room.ensures) c.take_ring-reply.ensures.answer
+    c.in_ok-require_room.ensures c.take_ring-reply.ensures.answer
     (c.store.ensures ∙ ap (λ x. keeping u x a) c.take_ring-reply.ensures.unit)
     c.finish-posted.ensures.ends c.finish-posted.ensures.words c.finish-posted.ensures.sealed c.answer.ensures

@@ -1,6 +1,5 @@
 use Rattle.std.proofs.Common.{rules}
-use Rattle.posting.specs.Calls.{pointed}
-use Rattle.posting.proofs.Goes.{goes_nowhere, goes-in-place, room_suffices, has_room_lem, has_no_room}
+use Rattle.posting.proofs.Goes.{goes_nowhere, goes-in-place, room_suffices}
 use Rattle.locks.specs.Rules.{replied, decline_rule}
 use Rattle.locks.proofs.Small.{decline_fits}
 use Rattle.locks.proofs.lock.Lock.decline.Goals as goal
@@ -10,9 +9,7 @@ returns-in_err-require_room g c =
     let k = c.args.self.now in
     let out = c.args.out.now in
     let scratch = c.args.scratch.now in
-    let call =
-    goes_nowhere (g.S.Scheme.holds c.args.scheme.now) c.args.change k out scratch (λ _. pointed 0 (replied (decline_rule k))) _
-    (has_no_room out scratch _ c.in_err-require_room.ensures) (search rules) in
+    let call = goes_nowhere _ c.args.change k out scratch _ _ _ c.in_err-require_room.ensures (search rules) in
     record { call = call; room_suffices = room_suffices c.args.change 0 k out scratch _ (replied (decline_rule k)) _ (decline_fits c.args.change k out scratch) call }
 
 pub returns : goal.returns
@@ -20,9 +17,8 @@ returns g c =
     let k = c.args.self.now in
     let out = c.args.out.now in
     let scratch = c.args.scratch.now in
-    let room = has_room_lem out scratch _ c.in_ok-require_room.ensures in
+    let fits = decline_fits c.args.change k out scratch in
     let call =
-    goes-in-place c.args.change 0 k out scratch _ (replied (decline_rule k)) _ c.finish.result _ _ _ _
-    room (decline_fits c.args.change k out scratch room)
+    goes-in-place c.args.change 0 k out scratch _ (replied (decline_rule k)) _ c.finish.result _ _ _ _ c.in_ok-require_room.ensures fits
     c.take_decline-reply.ensures.answer c.take_decline-reply.ensures.lock c.finish.ensures.ends c.finish.ensures.words c.finish.ensures.sealed c.answer.ensures in
-    record { call = call; room_suffices = room_suffices c.args.change 0 k out scratch _ (replied (decline_rule k)) _ (decline_fits c.args.change k out scratch) call }
+    record { call = call; room_suffices = room_suffices c.args.change 0 k out scratch _ (replied (decline_rule k)) _ fits call }
