@@ -3,6 +3,7 @@ use Rattle.std.proofs.Common.{◌≡◌, ℕ, ◌+◌, ◌*◌, ◌^◌, ◌<◌
 use lib.Count.{ones}
 use Rattle.std.proofs.lemmas.Nat.{mod_below}
 use Rattle.std.proofs.lemmas.List.{length-set, get_or-set_other}
+use Rattle.std.proofs.lemmas.Option.{same_Some}
 use Rattle.std.proofs.lemmas.Bool.{and_parts, and_from, eq-eqb, lt-ltb, ltb-true, not_from_false, not_from_true}
 use Rattle.terms.specs.declared.numbers.Change.{Change}
 use Rattle.terms.specs.declared.numbers.KeyNumber.{KeyNumber}
@@ -34,7 +35,7 @@ use Rattle.controllers.specs.Rules.{ordered_number, or_else, pair_of, with_propo
 use Rattle.roundtrip.proofs.Certificates.{fits_parts, parts_fit}
 use Rattle.roundtrip.proofs.Bases.{grounded, ground_fits}
 use Rattle.steps.specs.Ranges.{order_fits, PapersFit, ProposalFits, RoundFits, OwnBasisFits, RecordFits, RecordsFit}
-use Rattle.steps.proofs.Replies.{none_some, some_same}
+use Rattle.steps.proofs.Replies.{none_some}
 use Rattle.steps.proofs.Rows.{ones_none, map_set, ones_set, same_set, stands_at, none_filled, seals_set, votes_set, within_registered, within_voted, row_cases, blank_row, blank_map}
 
 -- ---- certificates
@@ -178,7 +179,7 @@ module _ {sizes : Sizes} {t : Change} {v : View} {r : Round} (g : RoundFits size
   -- a proposal is held where none was
   pub holds_one : (p : Proposal) → r.proposal ≡ None → ProposalFits sizes p → RoundFits sizes t v (with_proposal r p)
   holds_one p e f = record {
-    proposal = λ q i. subst (ProposalFits sizes) (some_same i) f;
+    proposal = λ q i. subst (ProposalFits sizes) (same_Some _ _ i) f;
     assents = g.assents;
     assent_rows = g.assent_rows;
     same_seats = g.same_seats;
@@ -200,7 +201,7 @@ module _ {sizes : Sizes} {t : Change} {v : View} {r : Round} (g : RoundFits size
     };
     assent_rows = length-set r.assents s.0 (Some x) ∙ g.assent_rows;
     same_seats = same_set r.assents r.seals s.0 x z (g.assent_rows ∙ sym g.assents.rows) g.same_seats;
-    agreeing = λ o i k y j. elim (row_cases r.assents s.0 k x y j) [ inl c ↦ sym c.1 ∙ q ∙ ap pair_of (some_same (sym e ∙ i)) | inr c ↦ g.agreeing o i k y c ];
+    agreeing = λ o i k y j. elim (row_cases r.assents s.0 k x y j) [ inl c ↦ sym c.1 ∙ q ∙ ap pair_of (same_Some _ _ (sym e ∙ i)) | inr c ↦ g.agreeing o i k y c ];
     none = λ i. absurd (none_some i e);
     confirm_rows = g.confirm_rows;
   }

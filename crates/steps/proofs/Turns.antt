@@ -1,6 +1,7 @@
 -- One lemma a rule: a controller within range stays so, and what it sends is within range.
 use Rattle.std.proofs.Common.{◌≡◌, ℕ, ◌+◌, ◌*◌, ◌%◌, ◌^◌, ◌<◌, ◌≤◌, Bool, true, false, cond, not, ◌&&◌, ◌||◌, eqb, ltb, leb, List, get_or, set, is_some, Some, None, Ok, Err, Option, Result as Res, sym, refl, ap, ◌∙◌, subst, arith}
 use lib.Count.{ones}
+use Rattle.std.proofs.lemmas.Option.{same_Some}
 use Rattle.std.proofs.lemmas.Bool.{and_parts, and_from, or_parts, cond_both, eq-eqb, ne_eqb, eqb-true, eqb-false, lt-ltb, ltb-true, ltb-false, leb-true, leb-false, not-false, not_from_false}
 use Rattle.terms.specs.declared.numbers.Change.{Change}
 use Rattle.terms.specs.declared.numbers.KeyNumber.{KeyNumber}
@@ -44,7 +45,7 @@ use Rattle.controllers.specs.Rules.{Reply, with_order, with_round, with_records,
 use Rattle.roundtrip.proofs.Bases.{grounded}
 use Rattle.roundtrip.proofs.Certificates.{parts_fit}
 use Rattle.steps.specs.Ranges.{order_fits, PapersFit, ProposalFits, RoundFits, RecordsFit, ControllerFits}
-use Rattle.steps.proofs.Replies.{Serves, no, yes, passes, either, not_refused, was_given, is_none, none_some, some_same, same_outcome_lem, is_eq}
+use Rattle.steps.proofs.Replies.{Serves, no, yes, passes, either, not_refused, was_given, is_none, none_some, same_outcome_lem, is_eq}
 use Rattle.steps.proofs.Rows.{ones_none, none_filled, all_agree}
 use Rattle.steps.proofs.Movers.{picks_quorum, best_recorded}
 use Rattle.steps.proofs.Groups.{digest_word_lem, order_of, outcome_number_lem, outcome_same, registers, votes_on, orders_first, own_fits, new_round, holds_one, assents_one, confirms_one, makes_basis, grounds_later, basis_later, records_one}
@@ -334,10 +335,10 @@ draft_fits sizes t u d g k e = from (choice u (movers sizes u)) refl e
   where
     own : (o : Option Order) → u.order ≡ o → own_draft u (movers sizes u) o ≡ Some d → DraftFits sizes u.view d
     own None q e = absurd (none_some refl e)
-    own (Some o) q e = subst (DraftFits sizes u.view) (some_same e) (record { certificate = own_fits g.papers o q; outcome = refl; movers = k })
+    own (Some o) q e = subst (DraftFits sizes u.view) (same_Some _ _ e) (record { certificate = own_fits g.papers o q; outcome = refl; movers = k })
 
     from : (c : Option Basis) → choice u (movers sizes u) ≡ c → draft_from u (movers sizes u) c ≡ Some d → DraftFits sizes u.view d
-    from (Some b) q e = let f = chosen_fits sizes t u (movers sizes u) b g.records q in subst (DraftFits sizes u.view) (some_same e) (record { certificate = f.0; outcome = f.1; movers = k })
+    from (Some b) q e = let f = chosen_fits sizes t u (movers sizes u) b g.records q in subst (DraftFits sizes u.view) (same_Some _ _ e) (record { certificate = f.0; outcome = f.1; movers = k })
     from None q e = own u.order refl e
 
 drafted_some : (o : Option Draft) (d : Draft) → drafted o ≡ Ok d → o ≡ Some d
