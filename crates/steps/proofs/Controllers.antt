@@ -1,5 +1,5 @@
 -- What holds of every step of a controller.
-use Rattle.std.proofs.Common.{◌≡◌, ℕ, zero, suc, true, not, eqb, List, [], ◌∷◌, get_or, set, is_some, Some, None, Option, refl, ◌∙◌, inl, inr, arith}
+use Rattle.std.proofs.Common.{◌≡◌, ℕ, true, not, eqb, get_or, is_some, None, refl, ◌∙◌, inl, inr, arith}
 use Rattle.std.proofs.lemmas.Bool.Decides.{nat_tests}
 use Rattle.std.proofs.lemmas.Bool.{cond_both}
 use Rattle.terms.specs.declared.numbers.Change.{Change}
@@ -14,6 +14,7 @@ use Rattle.controllers.specs.declared.controller.Controller.{Controller}
 use Rattle.controllers.specs.Letters.{body_rule}
 use Rattle.controllers.specs.Rules.{Reply, confirming, pair}
 use Rattle.steps.specs.Steps.{ControllerStep, to_controller, controller_reply, controller_next}
+use Rattle.steps.proofs.Rows.{row_stays}
 use Rattle.steps.proofs.Voices.{Bases, assent_bases}
 use Rattle.steps.specs.Laws.{SeatStays, ViewNeverFalls, ResultStays, OrderStays, RegisteredPlacesStay, RegisteredPlacesNeverGrow, BasisNeverFalls, ProposalStaysInItsView}
 
@@ -41,13 +42,6 @@ pub proposal_stays : ProposalStaysInItsView
 unfolding controller_reply confirming
 proposal_stays sizes t u (to_controller l) own p h e = grind (arith, nat_tests)
 proposal_stays sizes t u s own p h e = grind (arith, nat_tests)
-
-row_stays : {A : Type 0} (xs : List (Option A)) (i j : ℕ) (y : A) → is_some (get_or xs j None) ≡ true → is_some (get_or (set xs i (Some y)) j None) ≡ true
-row_stays [] i j y h = h
-row_stays (x ∷ xs) zero zero y h = refl
-row_stays (x ∷ xs) zero (suc j) y h = h
-row_stays (x ∷ xs) (suc i) zero y h = h
-row_stays (x ∷ xs) (suc i) (suc j) y h = row_stays xs i j y h
 
 registered_body : (sizes : Sizes) (t : Change) (u : Controller) (b : Body Certificate Basis) (z own : Seal) (p : ℕ) → is_some (get_or u.registered p None) ≡ true → is_some (get_or (after u (body_rule sizes t u b z own)).registered p None) ≡ true
 unfolding confirming

@@ -19,13 +19,13 @@ use Rattle.steps.proofs.Replies.{is_none}
 -- ---- the map
 
 -- the map is the mask of the tests
-masked : {A : Type 0} (rs : List (Option A)) → map_of is_some rs ≡ mask_l (map is_some rs)
+masked : {A : Type 0} (test : A → Bool) (xs : List A) → map_of test xs ≡ mask_l (map test xs)
 unfolding map_of
-masked [] = refl
-masked (r ∷ rs) = ap (λ m. cond (is_some r) 1 0 + 2 * m) (masked rs)
+masked test [] = refl
+masked test (x ∷ xs) = ap (λ m. cond (test x) 1 0 + 2 * m) (masked test xs)
 
 ones_filled : {A : Type 0} (rs : List (Option A)) → ones (map_of is_some rs) ≡ count_by is_some rs
-ones_filled rs = ap ones (masked rs) ∙ ones-mask_l is_some rs
+ones_filled rs = ap ones (masked is_some rs) ∙ ones-mask_l is_some rs
 
 pub ones_none : ones 0 ≡ 0
 unfolding ones ones_in
@@ -70,13 +70,16 @@ same_set (r ∷ rs) (q ∷ qs) (suc k) y z l e =
     let p = same_bits (is_some r) (is_some q) (map_of is_some rs) (map_of is_some qs) e in
     ap₂ (λ (a m : ℕ). a + 2 * m) p.0 (same_set rs qs k y z (omega arith) p.1)
 
--- a bit of the map says whether its row is filled
-pub stands_at : {A : Type 0} (rs : List (Option A)) (j : ℕ) → stands (map_of is_some rs) j ≡ is_some (get_or rs j None)
-stands_at rs j = ap (λ m. stands m j) (masked rs) ∙ ap (λ n. eqb n 1) (bit_mask_l (map is_some rs) j ∙ ap (λ b. cond b 1 0) (get_or-map is_some rs j None)) ∙ bit (is_some (get_or rs j None))
+-- a bit of the map says whether its row passes
+pub map_stands : {A : Type 0} (test : A → Bool) (d : A) → test d ≡ false → (xs : List A) (j : ℕ) → stands (map_of test xs) j ≡ test (get_or xs j d)
+map_stands test d e xs j = ap (λ m. stands m j) (masked test xs) ∙ ap (λ n. eqb n 1) (bit_mask_l (map test xs) j ∙ ap (λ b. cond b 1 0) (ap (get_or (map test xs) j) (sym e) ∙ get_or-map test xs j d)) ∙ bit (test (get_or xs j d))
   where
     bit : (b : Bool) → eqb (cond b 1 0) 1 ≡ b
     bit true = refl
     bit false = refl
+
+pub stands_at : {A : Type 0} (rs : List (Option A)) (j : ℕ) → stands (map_of is_some rs) j ≡ is_some (get_or rs j None)
+stands_at rs j = map_stands is_some None refl rs j
 
 -- none is filled
 pub none_filled : {A : Type 0} (rs : List (Option A)) (j : ℕ) → map_of is_some rs ≡ 0 → get_or rs j None ≡ None
@@ -140,6 +143,14 @@ row_cases (x ∷ xs) zero zero y a e = inl (refl, same_Some _ _ e)
 row_cases (x ∷ xs) zero (suc j) y a e = inr e
 row_cases (x ∷ xs) (suc k) zero y a e = inr e
 row_cases (x ∷ xs) (suc k) (suc j) y a e = elim (row_cases xs k j y a e) [ inl p ↦ inl (ap suc p.0, p.1) | inr p ↦ inr p ]
+
+-- what is filled stays filled
+pub row_stays : {A : Type 0} (xs : List (Option A)) (i j : ℕ) (y : A) → is_some (get_or xs j None) ≡ true → is_some (get_or (set xs i (Some y)) j None) ≡ true
+row_stays [] i j y h = h
+row_stays (x ∷ xs) zero zero y h = refl
+row_stays (x ∷ xs) zero (suc j) y h = h
+row_stays (x ∷ xs) (suc i) zero y h = h
+row_stays (x ∷ xs) (suc i) (suc j) y h = row_stays xs i j y h
 
 pub blank_row : {A : Type 0} (n j : ℕ) → get_or {A = Option A} (replicate n None) j None ≡ None
 blank_row zero j = refl

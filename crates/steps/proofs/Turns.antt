@@ -66,7 +66,7 @@ Turn sizes t r = Serves (Keeps sizes t) r
 
 -- ---- small facts
 
-order_none : (o : Option Order) (n : Option KeyNumber) → may_order o n ≡ Ok tt → o ≡ None
+pub order_none : (o : Option Order) (n : Option KeyNumber) → may_order o n ≡ Ok tt → o ≡ None
 order_none None n e = refl
 order_none (Some o) n e = let p = (not_refused (same_number o.number n) R.Repeated (Err R.Differs) tt e).1 in absurd (grind (arith, p))
 
@@ -320,7 +320,7 @@ draft_fits sizes t u d g k e = from (choice u (movers sizes u)) refl e
     from (Some b) q e = let f = chosen_fits sizes t u (movers sizes u) b g.records q in subst (DraftFits sizes u.view) (same_Some _ _ e) (record { certificate = f.0; outcome = f.1; movers = k })
     from None q e = own u.order refl e
 
-drafted_some : (o : Option Draft) (d : Draft) → drafted o ≡ Ok d → o ≡ Some d
+pub drafted_some : (o : Option Draft) (d : Draft) → drafted o ≡ Ok d → o ≡ Some d
 drafted_some None d e = absurd (grind (arith, e))
 drafted_some (Some c) d e = let q : c ≡ d = cc in ap Some q
 

@@ -23,12 +23,9 @@ use Rattle.locks.specs.declared.lock.Lock.{Lock}
 use Rattle.locks.specs.Letters as Locks
 use Rattle.locks.specs.Rules.{replied, board_after, board_called}
 use Rattle.agreement.specs.Calls.{Vault, State, Call, Went, went, Turn, halted, unopened, controller_at, controller_went, after_opening, opens, letter_to_controller, letter_to_lock, lock_at, sender, no_such_unit}
+use Rattle.agreement.proofs.Bridge.{same_sender}
 use Rattle.vault.specs.Vaults.{Turned}
 use Rattle.vault.proofs.Steps.{turned_along, halted_turn, unopened_turn, controller_goes, lock_goes}
-
-sender_kept : (b : Body Span Spans) → sender_of (kept_body b) ≡ sender_of b
-sender_kept (B.Enrol p) = refl
-sender_kept b = refl
 
 module _ (v : Vault) (s : State) (call : Call) (bytes : List ℕ) (rests : Vault → State → Letter Span Spans → Turn) where
   abbrev rest : Letter Span Spans → Turn
@@ -78,7 +75,7 @@ pub controller_receives :
 controller_receives v s call n at d l scratch' w e h r k g =
     controller_goes v s call n at d (λ u own. pointed (sender l) (Controllers.letter_rule v.sizes v.change u (kept l) own)) w e h
     (goes_cleared v.relation v.change _ call.out call.scratch scratch' _ w r k
-    (goes_along (λ z. ap (λ q. pointed (party_number q) (Controllers.letter_rule v.sizes v.change (get_or s.controllers at d) (kept l) z)) (sender_kept l.body)) g))
+    (goes_along (λ z. ap (λ q. pointed (party_number q) (Controllers.letter_rule v.sizes v.change (get_or s.controllers at d) (kept l) z)) (same_sender l.body)) g))
 
 -- a lock receives what was opened
 pub lock_receives :
