@@ -1,5 +1,5 @@
 -- Two decisions are of one outcome; a supported number includes the locks that a quorum gave receipts to, and was ordered.
-use Rattle.std.proofs.Common.{◌≡◌, ℕ, ◌<◌, ◌≤◌, false, ◌⊎◌, sym, refl, inl, inr, arith}
+use Rattle.std.proofs.Common.{◌≡◌, ℕ, ◌<◌, ◌≤◌, false, sym, refl, inl, inr, arith}
 use Rattle.std.proofs.lemmas.Bool.{cases_lt}
 use Rattle.agreement.specs.Seats.{Seats}
 use Rattle.agreement.proofs.Meet.{Few, Backed}

@@ -1,6 +1,6 @@
 -- Every call of a sound list keeps what holds of the vault.
-use Rattle.std.proofs.Common.{◌≡◌, ℕ, zero, suc, ◌+◌, ◌-◌, ◌*◌, ◌<◌, ◌≤◌, Bool, true, false, cond, not, ◌&&◌, ◌||◌, eqb, ltb, leb, ◌⊎◌, List, [], ◌∷◌, ◌++◌, length, get_or, set, Some, None, Ok, Err, Option, Result as Res, sym, refl, ap, ◌∙◌, subst, inl, inr, arith}
-use Rattle.std.proofs.lemmas.Bool.{cond_both, both_ways, cases_Bool, cases_eq, eqb-true, eqb-false, ne_eqb, and_parts, and_left, leb-true, leb-false, ltb-true, not-true, not-false, true≢false}
+use Rattle.std.proofs.Common.{◌≡◌, ℕ, ◌+◌, ◌-◌, ◌<◌, ◌≤◌, true, false, cond, not, eqb, ltb, leb, List, ◌∷◌, length, Some, None, Ok, Err, Option, Result as Res, sym, refl, ap, ◌∙◌, subst, arith}
+use Rattle.std.proofs.lemmas.Bool.{cond_both, eqb-true, ne_eqb, and_parts, and_left, leb-false, ltb-true, not-false, true≢false}
 use Rattle.terms.specs.declared.numbers.Change.{Change}
 use Rattle.terms.specs.declared.numbers.KeyNumber.{KeyNumber}
 use Rattle.terms.specs.declared.numbers.Place.{Place}
@@ -10,11 +10,8 @@ use Rattle.terms.specs.declared.parties.Party.TheVariants as P
 use Rattle.terms.specs.declared.refusals.Refusal.{Refusal}
 use Rattle.terms.specs.declared.refusals.RuleCause.{RuleCause}
 use Rattle.terms.specs.declared.refusals.RuleCause.TheVariants as RC
-use Rattle.terms.specs.Numbers.{is_change, is_key, key, seat, place, within}
-use Rattle.terms.specs.Parties.{party_number, seat_in, place_in, party_in, as_lock, as_controller}
-use Rattle.letters.specs.declared.sorts.Seal.{Seal}
-use Rattle.letters.specs.declared.certificates.Basis.{Basis}
-use Rattle.letters.specs.declared.certificates.Certificate.{Certificate}
+use Rattle.terms.specs.Numbers.{is_change, is_key, key, seat, place}
+use Rattle.terms.specs.Parties.{seat_in, place_in, party_in, as_lock, as_controller}
 use Rattle.letters.specs.declared.bodies.Body.{Body}
 use Rattle.letters.specs.declared.bodies.Body.TheVariants as B
 use Rattle.letters.specs.declared.bodies.Letter.{Letter}
@@ -27,20 +24,18 @@ use Rattle.roundtrip.specs.Laws.{Bytes}
 use Rattle.roundtrip.proofs.Once.{what_is_read_is_in_range}
 use Rattle.boards.specs.Boards.{Meaning, in_force}
 use Rattle.seals.specs.Opening.{opening, sender_borne}
-use Rattle.posting.specs.declared.few.AtMostTwo.TheVariants.{Nothing, One, Two}
+use Rattle.posting.specs.declared.few.AtMostTwo.TheVariants.{One}
 use Rattle.posting.specs.declared.few.Seals.{Seals}
-use Rattle.posting.specs.Calls.{has_room, pointed, called}
+use Rattle.posting.specs.Calls.{has_room, pointed}
 use Rattle.posting.specs.Posting.{are_words}
 use Rattle.posting.specs.Replies.{Reply, refused, served}
 use Rattle.controllers.specs.declared.controller.Controller.{Controller}
-use Rattle.controllers.specs.Letters as CL
-use Rattle.controllers.specs.Rules.{ring_rule, propose_rule}
 use Rattle.locks.specs.declared.lock.Lock.{Lock}
 use Rattle.locks.specs.Letters as LL
 use Rattle.locks.specs.Rules as L
 use Rattle.office.specs.declared.Office.{Office}
 use Rattle.office.specs.Rules.{office, order_rule, order_reply, number_out_of_range}
-use Rattle.steps.specs.Ranges.{ControllerFits, LockFits, controller_step_fits, lock_step_fits}
+use Rattle.steps.specs.Ranges.{controller_step_fits, lock_step_fits}
 use Rattle.steps.specs.Steps.{ControllerStep, to_controller, rings, proposes, controller_reply, LockStep, to_lock, enrols, declines, lock_reply}
 use Rattle.steps.proofs.Controllers.{seat_stays}
 use Rattle.steps.proofs.Within.{controllers_stay_in_range, controllers_send_in_range, locks_stay_in_range, locks_send_in_range, office_sends_in_range, little_is_sent}
@@ -50,7 +45,7 @@ use Rattle.agreement.specs.Calls as Q
 use Rattle.agreement.specs.Calls.{Vault, State, controller_at, lock_at, Request, Call, Went, Turn, halted, unopened, of_controller, of_lock, of_office, asks_controller, asks_lock, opens, after_opening, letter_to_controller, letter_to_lock, handed_to, turn_for, turn_went, sender, step}
 use Rattle.agreement.specs.Runs.{Given, InBytes, Fair, Unforged, is_receipt, reads_receipt, hands_receipt}
 use Rattle.agreement.proofs.Meet.{seats, Honest}
-use Rattle.agreement.proofs.Words.{Log, lock_party, log_of}
+use Rattle.agreement.proofs.Words.{lock_party, log_of}
 use Rattle.agreement.proofs.Mirror.{faults}
 use Rattle.agreement.proofs.Steps.{Good}
 use Rattle.agreement.proofs.Turns as T
@@ -60,7 +55,7 @@ use Rattle.agreement.proofs.Letters.{body_keeps, lock_body_fine}
 use Rattle.agreement.proofs.Locks as F
 use Rattle.agreement.proofs.Locks.{LockInv, Fine, enrol_fine, decline_fine}
 use Rattle.agreement.proofs.Senders.{Own, no, yes, one, OwnLock, controller_own, enrol_own, decline_own, lock_letter_own}
-use Rattle.agreement.proofs.Bridge.{Opened, opened, vouched}
+use Rattle.agreement.proofs.Bridge.{opened, vouched}
 use Rattle.agreement.proofs.World.{World}
 use Rattle.agreement.proofs.Served.{After, none_served, controller_turn, office_turn, lock_turn}
 
@@ -70,27 +65,11 @@ same_change a b e = λ i. record { 0 = e i }
 -- a lock reads the same of a letter and of what is kept of it
 same_rule : (R : Vault) (k : Lock) (m : Meaning) (b : Body Span Spans) → LL.body_rule R.sizes k m (kept_body b) ≡ LL.body_rule R.sizes k m b
 same_rule R k m (B.Enrol p) = refl
-same_rule R k m (B.Receipt s p) = refl
-same_rule R k m (B.Order n) = refl
-same_rule R k m (B.Summons s n z) = refl
-same_rule R k m (B.Vote p n a) = refl
-same_rule R k m (B.Proposal s v x c ms) = refl
-same_rule R k m (B.Assent s v x d) = refl
-same_rule R k m (B.Confirm s v x d) = refl
-same_rule R k m (B.Result s x) = refl
-same_rule R k m (B.Move s v b) = refl
+same_rule R k m b = refl
 
 same_receipt : (b : Body Span Spans) → is_receipt (kept_body b) ≡ is_receipt b
 same_receipt (B.Enrol p) = refl
-same_receipt (B.Receipt s p) = refl
-same_receipt (B.Order n) = refl
-same_receipt (B.Summons s n z) = refl
-same_receipt (B.Vote p n a) = refl
-same_receipt (B.Proposal s v x c ms) = refl
-same_receipt (B.Assent s v x d) = refl
-same_receipt (B.Confirm s v x d) = refl
-same_receipt (B.Result s x) = refl
-same_receipt (B.Move s v b) = refl
+same_receipt b = refl
 
 rule_own : (o : Office) (n : Option KeyNumber) → Own P.Office (pointed 0 (order_rule o n))
 rule_own o n = cond_both o.ordered (refused RC.Repeated) (served (office true) (One (B.Order n))) (λ (r : Reply RuleCause Office). Own P.Office (pointed 0 r)) (λ _. no) (λ _. yes (one refl))
@@ -203,6 +182,19 @@ module _ {R : Vault} (honest : Seats) {from s : State} {gs : List Given} {n : �
   never : {A : Type 0} → false ≡ true → A
   never e = absurd (true≢false (sym e))
 
+  -- the unit that is asked for is there, and in its table, or the call stops
+  lock_asked : (req : Request) (p : ℕ) (rest : Lock → Turn) → (p < R.sizes.locks → Then req (rest (lock_at s p))) → Then req (asks_lock s (place_in R.sizes p) rest)
+  lock_asked req p rest turn =
+      cond_both (ltb p R.sizes.locks) (Some (place p)) None (λ o. Then req (asks_lock s o rest))
+      (λ lt. cond_both (ltb p (length s.locks)) _ _ (Then req) (λ _. turn (ltb-true _ _ lt)) (λ _. stops req Q.no_such_unit))
+      (λ _. stops req Q.no_such_unit)
+
+  controller_asked : (req : Request) (h : ℕ) (rest : Controller → Turn) → (h < seats (faults R) → Then req (rest (controller_at s h))) → Then req (asks_controller s (seat_in R.sizes h) rest)
+  controller_asked req h rest turn =
+      cond_both (ltb h (seats (faults R))) (Some (seat h)) None (λ o. Then req (asks_controller s o rest))
+      (λ lt. cond_both (ltb h (length s.controllers)) _ _ (Then req) (λ _. turn (ltb-true _ _ lt)) (λ _. stops req Q.no_such_unit))
+      (λ _. stops req Q.no_such_unit)
+
   hand_in : (m : ℕ) (bytes : List ℕ) → Bytes bytes → Unforged R honest gs bytes → Then (Q.hands_in m bytes) (handed_to R s (asked (Q.hands_in m bytes)) bytes (party_in R.sizes m))
   hand_in m bytes are-bytes fair =
       cond_both (eqb m 64) (Some P.Office) _ To (λ _. stops req Q.no_such_unit) (λ _.
@@ -236,28 +228,12 @@ module _ {R : Vault} (honest : Seats) {from s : State} {gs : List Given} {n : �
   call_keeps (Q.orders x) bytes fair =
       office_turn W (asked (Q.orders x)) zs (λ p. refl) (order_reply s.office x) (order_own s.office x) (office_sends_in_range R.sizes R.change s.office x)
       (λ lengths e. output_is_read_back.of_the_office R.sizes R.change s.office x W.numbered zs out scratch lengths words e)
-  call_keeps (Q.enrols p) bytes fair =
-      cond_both (ltb p R.sizes.locks) (Some (place p)) None (λ o. Then (Q.enrols p) (asks_lock s o (λ k. of_lock p 0 (L.enrol_rule k))))
-      (λ lt. cond_both (ltb p (length s.locks)) _ _ (Then (Q.enrols p))
-      (λ _. lock_call honest W (asked (Q.enrols p)) zs words p (ltb-true _ _ lt) 0 (λ q e. never e) 0 enrols refl (enrol_own (lock_at s p)) (enrol_fine (lock_at s p) (lock_inv honest W (asked (Q.enrols p)) zs words p (ltb-true _ _ lt))))
-      (λ _. stops (Q.enrols p) Q.no_such_unit))
-      (λ _. stops (Q.enrols p) Q.no_such_unit)
-  call_keeps (Q.declines p) bytes fair =
-      cond_both (ltb p R.sizes.locks) (Some (place p)) None (λ o. Then (Q.declines p) (asks_lock s o (λ k. of_lock p 0 (L.decline_rule k))))
-      (λ lt. cond_both (ltb p (length s.locks)) _ _ (Then (Q.declines p))
-      (λ _. lock_call honest W (asked (Q.declines p)) zs words p (ltb-true _ _ lt) 0 (λ q e. never e) 0 declines refl (decline_own (lock_at s p)) (decline_fine (lock_at s p) (lock_inv honest W (asked (Q.declines p)) zs words p (ltb-true _ _ lt))))
-      (λ _. stops (Q.declines p) Q.no_such_unit))
-      (λ _. stops (Q.declines p) Q.no_such_unit)
-  call_keeps (Q.rings h) bytes fair =
-      cond_both (ltb h (seats (faults R))) (Some (seat h)) None (λ o. Then (Q.rings h) (asks_controller s o (λ u. of_controller h (λ own. pointed 0 (ring_rule u)))))
-      (λ lt. cond_both (ltb h (length s.controllers)) _ _ (Then (Q.rings h))
-      (λ _. controller_call honest W (asked (Q.rings h)) zs words h (ltb-true _ _ lt) (λ p. refl) 0 rings refl (λ o g. ring_turn (controller_at s h) o g))
-      (λ _. stops (Q.rings h) Q.no_such_unit))
-      (λ _. stops (Q.rings h) Q.no_such_unit)
-  call_keeps (Q.proposes h) bytes fair =
-      cond_both (ltb h (seats (faults R))) (Some (seat h)) None (λ o. Then (Q.proposes h) (asks_controller s o (λ u. of_controller h (λ own. pointed 0 (propose_rule R.sizes R.change u own)))))
-      (λ lt. cond_both (ltb h (length s.controllers)) _ _ (Then (Q.proposes h))
-      (λ _. controller_call honest W (asked (Q.proposes h)) zs words h (ltb-true _ _ lt) (λ p. refl) 0 proposes refl (λ o g. propose_turn (controller_at s h) o g zs.first))
-      (λ _. stops (Q.proposes h) Q.no_such_unit))
-      (λ _. stops (Q.proposes h) Q.no_such_unit)
+  call_keeps (Q.enrols p) bytes fair = lock_asked (Q.enrols p) p _ (λ lt.
+      lock_call honest W (asked (Q.enrols p)) zs words p lt 0 (λ q e. never e) 0 enrols refl (enrol_own (lock_at s p)) (enrol_fine (lock_at s p) (lock_inv honest W (asked (Q.enrols p)) zs words p lt)))
+  call_keeps (Q.declines p) bytes fair = lock_asked (Q.declines p) p _ (λ lt.
+      lock_call honest W (asked (Q.declines p)) zs words p lt 0 (λ q e. never e) 0 declines refl (decline_own (lock_at s p)) (decline_fine (lock_at s p) (lock_inv honest W (asked (Q.declines p)) zs words p lt)))
+  call_keeps (Q.rings h) bytes fair = controller_asked (Q.rings h) h _ (λ lt.
+      controller_call honest W (asked (Q.rings h)) zs words h lt (λ p. refl) 0 rings refl (λ o g. ring_turn (controller_at s h) o g))
+  call_keeps (Q.proposes h) bytes fair = controller_asked (Q.proposes h) h _ (λ lt.
+      controller_call honest W (asked (Q.proposes h)) zs words h lt (λ p. refl) 0 proposes refl (λ o g. propose_turn (controller_at s h) o g zs.first))
   call_keeps (Q.hands_in m bytes) are-bytes fair = hand_in m bytes are-bytes fair

@@ -1,11 +1,10 @@
 -- The recursions of the rules: what they say of each seat and place.
-use Rattle.std.proofs.Common.{◌≡◌, ℕ, zero, suc, ◌+◌, ◌*◌, ◌/◌, ◌%◌, ◌^◌, ◌<◌, ◌≤◌, Bool, true, false, cond, not, ◌&&◌, ◌||◌, eqb, ltb, leb, ◌⊎◌, List, [], ◌∷◌, length, get_or, is_some, Some, None, Option, sym, refl, ap, ◌∙◌, inl, inr, arith}
+use Rattle.std.proofs.Common.{◌≡◌, ℕ, zero, suc, ◌+◌, ◌/◌, ◌%◌, ◌^◌, ◌<◌, ◌≤◌, Bool, true, false, cond, not, ◌&&◌, ◌||◌, eqb, ltb, ◌⊎◌, List, length, get_or, is_some, Some, None, Option, sym, refl, ap, ◌∙◌, inl, inr, arith}
 use lib.Count.{ones, ones_step, ones-le}
 use Rattle.std.proofs.lemmas.Nat.{shr-shr}
-use Rattle.std.proofs.lemmas.Bool.{cases_Bool, and_parts, and_from, cases_eq, cases_lt, both_ways, eqb-true, ne_eqb, eq-eqb, cond_both, ltb-true, ltb-false, lt-ltb, le-ltb, or_cases, not-true, true≢false}
+use Rattle.std.proofs.lemmas.Bool.{cases_Bool, and_parts, cases_eq, both_ways, eqb-true, ne_eqb, eq-eqb, cond_both, ltb-true, ltb-false, or_cases, not-true, true≢false}
 use Rattle.terms.specs.declared.numbers.KeyNumber.{KeyNumber}
 use Rattle.terms.specs.declared.numbers.View.{View}
-use Rattle.terms.specs.declared.parties.Outcome.{Outcome}
 use Rattle.terms.specs.declared.parties.Outcome.TheVariants.{Keep, Number}
 use Rattle.letters.specs.declared.sorts.Seal.{Seal}
 use Rattle.letters.specs.declared.sorts.Answer.{Answer}
@@ -13,13 +12,14 @@ use Rattle.letters.specs.declared.sorts.Answer.TheVariants as A
 use Rattle.letters.specs.declared.certificates.Basis.{Basis}
 use Rattle.letters.specs.declared.certificates.Certificate.{Certificate}
 use Rattle.letters.specs.declared.certificates.Vote.{Vote}
-use Rattle.letters.specs.Bytes.{map_of}
 use Rattle.letters.specs.Certificates.{is_ready, ready_vote, row_ready, all_ready, some_enrolled, result_under, result_of}
 use Rattle.controllers.specs.declared.controller.MoveRecord.{MoveRecord}
 use Rattle.controllers.specs.declared.controller.Picked.{Picked}
-use Rattle.controllers.specs.Choice.{stands_in, names, basis_of, offer, better, best, all_recorded, covers, add_seat, picked}
-use Rattle.agreement.specs.Seats.{Seats, count}
-use Rattle.agreement.proofs.Tools.{none_some, some_same, some_below, count_front, count_same, count_le}
+use Rattle.controllers.specs.Choice.{stands_in, names, offer, better, best, all_recorded, covers, picked}
+use Rattle.agreement.specs.Seats.{count}
+use Rattle.agreement.proofs.Tools.{some_below, count_front, count_same}
+use Rattle.std.proofs.lemmas.Option.{same_Some}
+use Rattle.steps.proofs.Replies.{none_some}
 
 -- ---- the best of the offers
 
@@ -48,7 +48,7 @@ data Won (a o : Option Basis) (b : Basis) : Type 0 where
   wins : o ≡ Some b → ((y : Basis) → a ≡ Some y → y.view.0 ≤ b.view.0) → Won a o b
 
 view_of : {a b : Basis} → Some a ≡ Some b → a.view.0 ≡ b.view.0
-view_of e = ap {A = Basis} (λ k. k.view.0) (some_same e)
+view_of e = ap {A = Basis} (λ k. k.view.0) (same_Some _ _ e)
 
 better_won : (a o : Option Basis) (b : Basis) → better a o ≡ Some b → Won a o b
 better_won None None b e = absurd (none_some refl e)
@@ -144,10 +144,10 @@ row_ready_lem None v s e = absurd (true≢false (sym s))
 row_ready_lem (Some z) v s e = e
 
 certified_number : (c : Certificate) (n : KeyNumber) (o : Option KeyNumber) → result_under c o ≡ Number n → (o ≡ Some n) × (all_ready c.enrolled c.votes (length c.enrolled) ≡ true)
-certified_number c n None e = let z : ◌≡◌ {A = ℕ} 0 1 = cc in absurd (omega arith)
+certified_number c n None e = cc
 certified_number c n (Some m) e = elim (cases_Bool (some_enrolled c.enrolled (length c.enrolled) && all_ready c.enrolled c.votes (length c.enrolled))) [
   | inl q ↦ (let f : Number m ≡ Number n = rw q at e in (ap Some (let r : m ≡ n = cc in r), (and_parts _ _ q).1))
-  | inr q ↦ (let f : Keep ≡ Number n = rw q at e in let z : ◌≡◌ {A = ℕ} 0 1 = cc in absurd (omega arith))
+  | inr q ↦ (let f : Keep ≡ Number n = rw q at e in cc)
 ]
 
 pub certificate_order : (c : Certificate) (n : KeyNumber) → result_of c ≡ Number n → c.order.number ≡ Some n
@@ -195,18 +195,6 @@ bit_added (suc n) m (suc k) h =
     let a : (m + 2 ^ suc n) / 2 ≡ m / 2 + 2 ^ n = omega arith in
     let b : eqb (suc k) (suc n) ≡ eqb k n = elim (cases_eq k n) [ inl q ↦ eq-eqb (suc k) (suc n) (ap suc q) ∙ sym (eq-eqb k n q) | inr q ↦ ne_eqb (suc k) (suc n) (λ z. q (omega arith)) ∙ sym (ne_eqb k n q) ] in
     stands_suc (m + 2 ^ suc n) k ∙ ap (λ (x : ℕ). stands_in x k) a ∙ bit_added n (m / 2) k (omega arith) ∙ ap (λ (x : Bool). x || stands_in (m / 2) k) (sym b) ∙ ap (λ (x : Bool). eqb (suc k) (suc n) || x) (sym (stands_suc m k))
-
--- the map of a row stands where the row passes
-pub map_stands : {A : Type 0} (test : A → Bool) (d : A) → test d ≡ false → (xs : List A) (k : ℕ) → stands_in (map_of test xs) k ≡ test (get_or xs k d)
-unfolding map_of
-map_stands test d e [] k = zero_stands k ∙ sym e
-map_stands test d e (x ∷ xs) zero = elim (cases_Bool (test x)) [
-  | inl q ↦ rw q (same_bit (1 + 2 * map_of test xs) 1 (omega arith))
-  | inr q ↦ rw q (same_bit (0 + 2 * map_of test xs) 0 (omega arith))
-]
-map_stands test d e (x ∷ xs) (suc k) =
-    let a : (cond (test x) 1 0 + 2 * map_of test xs) / 2 ≡ map_of test xs = elim (cases_Bool (test x)) [ inl q ↦ rw q (omega arith) | inr q ↦ rw q (omega arith) ] in
-    stands_suc _ k ∙ ap (λ (m : ℕ). stands_in m k) a ∙ map_stands test d e xs k
 
 -- ---- the movers that a leader names
 

@@ -1,11 +1,11 @@
 -- What honest parties give out keeps these rules; the log alone is read.
-use Rattle.std.proofs.Common.{◌≡◌, ℕ, ◌<◌, ◌≤◌, Bool, true, false, List, [], ◌∷◌, Some, None, Option}
+use Rattle.std.proofs.Common.{◌≡◌, ℕ, ◌<◌, ◌≤◌, false, Some}
 use Rattle.agreement.specs.Seats.{Seats}
 use Rattle.agreement.proofs.Meet.{Honest, Backed}
 use Rattle.terms.specs.declared.numbers.KeyNumber.{KeyNumber}
 use Rattle.terms.specs.declared.parties.Outcome.{Outcome}
-use Rattle.terms.specs.declared.parties.Outcome.TheVariants.{Keep, Number}
-use Rattle.agreement.proofs.Words.{Words, enrols, receipt, order, summons, ready, refuses, propose, assent, confirm, result, move, Brief, bare, built, Saying, says, Log, Said, here, there, Assented, proposed, assented, lock_party, office}
+use Rattle.terms.specs.declared.parties.Outcome.TheVariants.{Number}
+use Rattle.agreement.proofs.Words.{receipt, order, ready, propose, assent, confirm, move, Brief, bare, built, Saying, says, Log, Said, Assented, lock_party, office}
 
 abbrev pub AtLeast : ℕ → Brief → Type 0
 AtLeast w bare = ⊥
@@ -82,9 +82,4 @@ module _ (f : ℕ) (t : Seats) (l : Log) where
   Allowed (says h (confirm v x d)) = Honest f t h → Confirms h v x d
   Allowed (says h (move v b)) = Honest f t h → Moves h v b
   Allowed (says h (receipt p)) = Honest f t h → (v : ℕ) (x : Outcome) (d : ℕ) → Assented l h v x d → ⊥
-  Allowed (says h enrols) = Unit {0}
-  Allowed (says h (order n)) = Unit {0}
-  Allowed (says h (summons n)) = Unit {0}
-  Allowed (says h (ready n)) = Unit {0}
-  Allowed (says h (refuses n)) = Unit {0}
-  Allowed (says h (result x)) = Unit {0}
+  Allowed (says h w) = Unit {0}

@@ -1,13 +1,14 @@
 -- What the deeds of a lock leave in force on a board.
-use Rattle.std.proofs.Common.{◌≡◌, ℕ, ◌<◌, Bool, true, false, cond, not, ◌&&◌, ltb, ◌⊎◌, List, [], ◌∷◌, length, get_or, set, is_some as option_is_some, Some, None, Option, sym, refl, ap, ◌∙◌, inl, inr, arith, length-set}
+use Rattle.std.proofs.Common.{◌≡◌, true, Some, None, Option, sym, refl, ◌∙◌, inl, inr, length-set}
 use Rattle.std.proofs.lemmas.List.{get_or-set_other, get_or-set_same}
 use Rattle.std.proofs.lemmas.Bool.{cond_both, cases_Bool, ltb-true, true≢false}
 use Rattle.terms.specs.declared.numbers.KeyNumber.{KeyNumber}
 use Rattle.terms.specs.declared.numbers.Place.{Place}
-use Rattle.terms.specs.Numbers.{key, place, within}
+use Rattle.terms.specs.Numbers.{key}
 use Rattle.boards.specs.declared.door.Door.{Door}
-use Rattle.boards.specs.Boards.{Meaning, door, idle, how_many, has_place, door_at, force_of, staged_of, in_force, staged_at, has_staged, with_door, settled, awaiting, stages, after_stage, after_take_over, after_drop}
-use Rattle.agreement.proofs.Tools.{none_some, is_some}
+use Rattle.boards.specs.Boards.{Meaning, door, idle, how_many, has_place, in_force, staged_at, has_staged, with_door, settled, awaiting, stages, after_stage, after_take_over, after_drop}
+use Rattle.agreement.proofs.Tools.{is_some}
+use Rattle.steps.proofs.Replies.{none_some}
 
 -- a board changes at one place alone
 pub record Frame (b c : Meaning) (p : Place) : Type 0 where

@@ -1,55 +1,49 @@
 -- After every sound list of calls honest locks are alike.
-use Rattle.std.proofs.Common.{◌≡◌, ℕ, ◌+◌, ◌*◌, ◌<◌, ◌≤◌, Bool, true, false, cond, not, ◌⊎◌, List, [], ◌∷◌, ◌++◌, get_or, Some, None, Option, sym, refl, ap, ◌∙◌, subst, inl, inr, arith}
+use Rattle.std.proofs.Common.{◌≡◌, ℕ, ◌+◌, ◌*◌, ◌<◌, ◌≤◌, false, List, [], ◌∷◌, get_or, Some, None, sym, refl, ap, ◌∙◌, subst, inl, inr, arith}
 use Rattle.std.proofs.lemmas.Bool.{lt-ltb, ltb-true, not_from_true, not-false}
-use Rattle.terms.specs.declared.numbers.Change.{Change}
 use Rattle.terms.specs.declared.numbers.KeyNumber.{KeyNumber}
-use Rattle.terms.specs.declared.numbers.Place.{Place}
 use Rattle.terms.specs.declared.numbers.View.{View}
 use Rattle.terms.specs.declared.parties.Outcome.{Outcome}
 use Rattle.terms.specs.declared.parties.Outcome.TheVariants.{Keep, Number}
-use Rattle.terms.specs.declared.parties.Party.{Party}
 use Rattle.terms.specs.declared.parties.Party.TheVariants as P
 use Rattle.terms.specs.Numbers.{seat, place}
-use Rattle.terms.specs.Parties.{party_number}
-use Rattle.terms.specs.Sizes.{seat_count, quorum_of}
+use Rattle.terms.specs.Sizes.{quorum_of}
 use Rattle.letters.specs.declared.sorts.Answer.TheVariants as A
 use Rattle.letters.specs.declared.sorts.Digest.{Digest}
 use Rattle.letters.specs.declared.certificates.Basis.{Basis}
 use Rattle.letters.specs.declared.certificates.Certificate.{Certificate}
 use Rattle.letters.specs.declared.bodies.Body.{Body}
 use Rattle.letters.specs.declared.bodies.Body.TheVariants as B
-use Rattle.letters.specs.declared.statements.Statement.{Statement}
 use Rattle.letters.specs.Inner.{bears}
 use Rattle.letters.specs.Sorts.{seal, seat_set}
-use Rattle.letters.specs.Statements.{order_statement, vote_statement, proposal_statement, assent_statement, outcome_number, statement_bytes}
-use Rattle.ballots.specs.Counts.{votes_for}
+use Rattle.letters.specs.Statements.{proposal_statement, assent_statement, outcome_number, statement_bytes}
 use Rattle.ballots.specs.Kinds.{same_outcome}
 use Rattle.boards.specs.Boards.{in_force}
-use Rattle.locks.specs.declared.lock.Standing.{Standing}
-use Rattle.locks.specs.declared.lock.Standing.TheVariants as S
 use Rattle.locks.specs.Rules.{rank}
 use Rattle.roundtrip.proofs.Tells as T
 use Rattle.roundtrip.proofs.Tells.{number_below}
 use Rattle.steps.proofs.Within.{new_controllers_are_in_range, new_locks_are_in_range}
 use Rattle.agreement.specs.Seats.{Seats, count, faulty}
-use Rattle.agreement.specs.Calls.{Vault, State, controller_at, lock_at, Call, Went, Step}
+use Rattle.agreement.specs.Calls.{Vault, State, lock_at, Call, Went, Step}
 use Rattle.agreement.specs.Runs as Q
 use Rattle.agreement.specs.Runs.{SetUp, Run, start, next, Given, given_out, given_at, Among, HasGiven, gave, Sound, receipt_at, receipts_served}
-use Rattle.agreement.specs.Law.{FewFaulty, HonestController, HonestLock, HonestOffice, Carries, Changed, Kept, Ended, CarriesAsSetUp, Alike, both_kept, both_changed, Ordered, VotedReady, HonestLocksNeverPart, OneResult, Ballot, proposed as ballot-proposed, assented as ballot-assented, Supported, SupportedNumbersStand, SoundWith, given_with, receipts_with, HonestLocksNeverPartLaw, HonestControllersHoldOneResult, SupportedNumbersStandLaw}
-use Rattle.agreement.proofs.Meet.{seats, Few, Honest, honest as honest-one, Backed}
-use Rattle.agreement.proofs.Words.{ready, order, propose, assent, Saying, says, Log, Said, here, there, Assented, proposed, assented, lock_party, office, words, words_told, saying, uttered, log_of, outcome_told}
+use Rattle.agreement.specs.Law.{FewFaulty, HonestController, HonestLock, Carries, Changed, Kept, Ended, CarriesAsSetUp, Alike, both_kept, both_changed, Ordered, VotedReady, HonestLocksNeverPart, OneResult, Ballot, proposed as ballot-proposed, assented as ballot-assented, Supported, SupportedNumbersStand, SoundWith, given_with, receipts_with, HonestLocksNeverPartLaw, HonestControllersHoldOneResult, SupportedNumbersStandLaw}
+use Rattle.agreement.proofs.Meet.{seats, Honest, honest as honest-one, Backed}
+use Rattle.agreement.proofs.Words.{ready, order, Saying, says, Said, here, there, Assented, proposed, assented, lock_party, office, words_told, saying, uttered, log_of, outcome_told}
 use Rattle.agreement.proofs.Core as K
 use Rattle.agreement.proofs.Core.{Decided, Rules}
 use Rattle.agreement.proofs.Kept.{fresh_rules}
 use Rattle.agreement.proofs.Agree.{agreement, decided_supported, inclusion, ordering}
-use Rattle.agreement.proofs.Tools.{none_some, some_same, same_number_lem, same_outcome_lem, votes_some}
+use Rattle.agreement.proofs.Tools.{votes_some}
 use Rattle.agreement.proofs.Mirror.{faults, mirror_blank}
 use Rattle.agreement.proofs.Locks.{LockInv, Turned, lock_blank, receipts_of, results_of}
 use Rattle.agreement.proofs.Tools.{some_of}
-use Rattle.agreement.proofs.Bridge.{given_for, Uttered, Proper, said_given, change_below}
+use Rattle.agreement.proofs.Bridge.{given_for, Uttered, said_given, change_below}
 use Rattle.agreement.proofs.World.{World}
 use Rattle.agreement.proofs.Served.{After}
 use Rattle.agreement.proofs.Calls.{call_keeps}
+use Rattle.std.proofs.lemmas.Option.{same_Some}
+use Rattle.steps.proofs.Replies.{same_outcome_lem}
 
 -- ---- a vault that was just set up, and every list of calls from there
 
@@ -90,34 +84,17 @@ module _ (R : Vault) (gs : List Given) (told : (g : Given) → Among g gs → Ut
       sym b ∙ (sym a ∙ e)
 
   vote_given : (q : ℕ) (n : KeyNumber) (b : Body Certificate Basis) → saying b ≡ says (lock_party q) (ready (Some n)) → (b ≡ B.Vote (place q) n A.Ready)
-  vote_given q n (B.Enrol p) e = let z : ◌≡◌ {A = ℕ} 0 1 = cc in absurd (omega arith)
-  vote_given q n (B.Receipt s p) e = let z : ◌≡◌ {A = ℕ} 0 1 = cc in absurd (omega arith)
-  vote_given q n (B.Order m) e = let z : ◌≡◌ {A = ℕ} 0 1 = cc in absurd (omega arith)
-  vote_given q n (B.Summons s m x) e = let z : ◌≡◌ {A = ℕ} 0 1 = cc in absurd (omega arith)
   vote_given q n (B.Vote p m A.Ready) e =
       let a : 32 + p.0 ≡ 32 + q = cc in
       let b : m ≡ n = cc in
       let c : p.0 ≡ q = omega arith in
       λ i. B.Vote (record { 0 = c i }) (b i) A.Ready
-  vote_given q n (B.Vote p m A.Refuse) e = let z : ◌≡◌ {A = ℕ} 0 1 = cc in absurd (omega arith)
-  vote_given q n (B.Proposal s v x c m) e = let z : ◌≡◌ {A = ℕ} 0 1 = cc in absurd (omega arith)
-  vote_given q n (B.Assent s v x d) e = let z : ◌≡◌ {A = ℕ} 0 1 = cc in absurd (omega arith)
-  vote_given q n (B.Confirm s v x d) e = let z : ◌≡◌ {A = ℕ} 0 1 = cc in absurd (omega arith)
-  vote_given q n (B.Result s x) e = let z : ◌≡◌ {A = ℕ} 0 1 = cc in absurd (omega arith)
-  vote_given q n (B.Move s v b) e = let z : ◌≡◌ {A = ℕ} 0 1 = cc in absurd (omega arith)
+  vote_given q n b e = cc
 
   order_given : (n : KeyNumber) (b : Body Certificate Basis) → saying b ≡ says office (order (Some n)) → (b ≡ B.Order (Some n))
-  order_given n (B.Enrol p) e = let z : ◌≡◌ {A = ℕ} 0 1 = cc in absurd (omega arith)
-  order_given n (B.Receipt s p) e = let z : ◌≡◌ {A = ℕ} 0 1 = cc in absurd (omega arith)
   order_given n (B.Order m) e = let a : m ≡ Some n = cc in ap B.Order a
-  order_given n (B.Summons s m x) e = let z : ◌≡◌ {A = ℕ} 0 1 = cc in absurd (omega arith)
-  order_given n (B.Vote p m A.Ready) e = let z : ◌≡◌ {A = ℕ} 0 1 = cc in absurd (omega arith)
-  order_given n (B.Vote p m A.Refuse) e = let z : ◌≡◌ {A = ℕ} 0 1 = cc in absurd (omega arith)
-  order_given n (B.Proposal s v x c m) e = let z : ◌≡◌ {A = ℕ} 0 1 = cc in absurd (omega arith)
-  order_given n (B.Assent s v x d) e = let z : ◌≡◌ {A = ℕ} 0 1 = cc in absurd (omega arith)
-  order_given n (B.Confirm s v x d) e = let z : ◌≡◌ {A = ℕ} 0 1 = cc in absurd (omega arith)
-  order_given n (B.Result s x) e = let z : ◌≡◌ {A = ℕ} 0 1 = cc in absurd (omega arith)
-  order_given n (B.Move s v b) e = let z : ◌≡◌ {A = ℕ} 0 1 = cc in absurd (omega arith)
+  order_given n (B.Vote p m A.Ready) e = cc
+  order_given n b e = cc
 
   voted_ready : (q : ℕ) (n : KeyNumber) → K.Ready (log_of gs) q n → VotedReady R gs q n
   voted_ready q n m =
@@ -161,7 +138,7 @@ module _ {R : Vault} (honest : Seats) {from s : State} {gs : List Given} {receip
   changed_decision : (p : ℕ) (n : KeyNumber) → HonestLock R honest p → Changed s p → Carries s p n → (v : ℕ) × (d : ℕ) × Decided (faults R) t (log_of gs) v (Number n) d
   changed_decision p n q e c =
       let k = turned p q e in
-      let same : k.number ≡ n = some_same (sym k.now ∙ c) in
+      let same : k.number ≡ n = same_Some _ _ (sym k.now ∙ c) in
       subst (λ (z : KeyNumber). (v : ℕ) × (d : ℕ) × Decided (faults R) t (log_of gs) v (Number z) d) same (decision p q (Number k.number) k.results)
 
   receipt_quorum : (q : ℕ) → HonestLock R honest q → 2 * faults R + 1 ≤ count (receipts_of (lock_at s q)) (seats (faults R)) → Backed (faults R) t (λ h. K.Receipt (log_of gs) h q)
@@ -182,7 +159,7 @@ module _ {R : Vault} (honest : Seats) {from s : State} {gs : List Given} {receip
       let c = turned p hp e in
       elim ((inv q hq).kept k) [
         | inl none ↦ none c.number (includes p q c.number hp hq e c.now ((inv q hq).enrolled (omega arith)))
-        | inr many ↦ (let a = changed_decision p c.number hp e c.now in let b = decision q hq Keep many in let z = agreement few W.rules a.0 b.0 (Number c.number) Keep a.1 b.1 a.2 b.2 in let y : ◌≡◌ {A = ℕ} 0 1 = cc in omega arith)
+        | inr many ↦ (let a = changed_decision p c.number hp e c.now in let b = decision q hq Keep many in let z = agreement few W.rules a.0 b.0 (Number c.number) Keep a.1 b.1 a.2 b.2 in cc)
       ]
 
   stays : (p : ℕ) → HonestLock R honest p → Kept s p → CarriesAsSetUp from s p

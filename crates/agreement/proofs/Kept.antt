@@ -1,11 +1,10 @@
 -- What may be added to a log keeps its rules.
-use Rattle.std.proofs.Common.{◌≡◌, ℕ, zero, suc, ◌<◌, ◌≤◌, ◌⊎◌, List, [], ◌∷◌, sym, refl, subst, inl, inr, arith}
+use Rattle.std.proofs.Common.{◌≡◌, ℕ, ◌<◌, ◌⊎◌, [], ◌∷◌, inl, inr}
 use Rattle.agreement.specs.Seats.{Seats}
-use Rattle.agreement.proofs.Meet.{Few, Honest, Backed}
+use Rattle.agreement.proofs.Meet.{Honest}
 use Rattle.terms.specs.declared.parties.Outcome.{Outcome}
-use Rattle.terms.specs.declared.parties.Outcome.TheVariants.{Keep, Number}
-use Rattle.agreement.proofs.Words.{Words, receipt, propose, assent, confirm, move, Brief, bare, built, Saying, says, Log, Said, here, there, Assented, proposed, assented}
-use Rattle.agreement.proofs.Core.{AtLeast, AtMost, Included, Supported, Decided, Chosen, Free, Ground, first, chosen, free, Rules, Allowed, Speaks, Confirmed, Moved, Receipt, Ready}
+use Rattle.agreement.proofs.Words.{receipt, propose, assent, confirm, move, Brief, Saying, says, Log, Said, here, there, Assented, proposed, assented}
+use Rattle.agreement.proofs.Core.{AtLeast, Included, Supported, Chosen, Ground, first, chosen, free, Rules, Allowed, Speaks, Confirmed, Moved}
 use Rattle.agreement.proofs.Meet.{backed_map}
 
 pub none_said : {s : Saying} → Said s [] → ⊥
@@ -68,8 +67,8 @@ voice_same (by_assent p) (by_propose q) = (cc, cc)
 voice_same (by_assent p) (by_assent q) = (cc, cc)
 
 voice_no_receipt : {s : Saying} {h v : ℕ} {x : Outcome} {d k p : ℕ} → Voice s h v x d → says k (receipt p) ≡ s → ⊥
-voice_no_receipt (by_propose e) q = let z : ◌≡◌ {A = ℕ} 0 1 = cc in omega arith
-voice_no_receipt (by_assent e) q = let z : ◌≡◌ {A = ℕ} 0 1 = cc in omega arith
+voice_no_receipt (by_propose e) q = cc
+voice_no_receipt (by_assent e) q = cc
 
 module _ {f : ℕ} {t : Seats} {s : Saying} {l : Log} (a : Allowed f t l s) (r : Rules f t l) where
   voice_kept : {h v : ℕ} {x y : Outcome} {d e : ℕ} → Honest f t h → Assented (s ∷ l) h v x d → Assented (s ∷ l) h v y e → (x ≡ y) × (d ≡ e)
@@ -96,7 +95,7 @@ module _ {f : ℕ} {t : Seats} {s : Saying} {l : Log} (a : Allowed f t l s) (r :
   moves_kept {h} {w} {v} {x} {d} {b} o lt m n = go (said_cases m) (said_cases n)
     where
       go : (says h (confirm w x d) ≡ s) ⊎ Confirmed l h w x d → (says h (move v b) ≡ s) ⊎ Moved l h v b → AtLeast w b
-      go (inl p) (inl q) = let z : ◌≡◌ {A = ℕ} 0 1 = cc in absurd (omega arith)
+      go (inl p) (inl q) = cc
       go (inl p) (inr q) = ((rw (← p) at a) o).still v b lt q
       go (inr p) (inl q) = ((rw (← q) at a) o).high w x d lt p
       go (inr p) (inr q) = r.moves o lt p q

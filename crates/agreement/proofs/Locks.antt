@@ -1,7 +1,7 @@
 -- What the log says of an honest lock, and that each rule keeps it.
-use Rattle.std.proofs.Common.{◌≡◌, ℕ, zero, suc, ◌+◌, ◌*◌, ◌<◌, ◌≤◌, Bool, true, false, cond, not, ◌&&◌, ◌||◌, eqb, ltb, leb, ◌⊎◌, List, [], ◌∷◌, ◌++◌, length, get_or, set, is_some as option_is_some, Some, None, Ok, Err, Option, Result as Res, sym, refl, ap, ◌∙◌, subst, inl, inr, arith, length-set}
+use Rattle.std.proofs.Common.{◌≡◌, ℕ, suc, ◌+◌, ◌*◌, ◌<◌, ◌≤◌, Bool, true, false, not, ◌&&◌, ◌||◌, eqb, ltb, leb, ◌⊎◌, [], ◌∷◌, ◌++◌, length, get_or, is_some as option_is_some, Some, None, Ok, Err, Option, Result as Res, refl, ap, ◌∙◌, subst, inl, inr, arith, length-set}
 use Rattle.std.proofs.lemmas.List.{get_or-set_other, get_or-set_same}
-use Rattle.std.proofs.lemmas.Bool.{cond_both, both_ways, cases_Bool, cases_eq, eqb-true, eq-eqb, ne_eqb, leb-true, ltb-true, ltb-false, or_parts, not-false, true≢false}
+use Rattle.std.proofs.lemmas.Bool.{cond_both, cases_eq, eqb-true, eq-eqb, ne_eqb, leb-true, ltb-false, or_parts, not-false, true≢false}
 use Rattle.terms.specs.declared.numbers.KeyNumber.{KeyNumber}
 use Rattle.terms.specs.declared.numbers.Place.{Place}
 use Rattle.terms.specs.declared.numbers.Seat.{Seat}
@@ -17,8 +17,9 @@ use Rattle.ballots.specs.Counts.{votes_for, count_agree}
 use Rattle.ballots.specs.Kinds.{always_agree, same_outcome}
 use Rattle.boards.specs.Boards.{Meaning, in_force, staged_at, stages}
 use Rattle.posting.specs.declared.few.AtMostTwo.TheVariants.{Nothing, One}
-use Rattle.posting.specs.Replies.{Bodies, refuse_if}
+use Rattle.posting.specs.Replies.{Bodies}
 use Rattle.locks.specs.declared.lock.Lock.{Lock}
+use Rattle.locks.specs.declared.lock.Standing.{Standing}
 use Rattle.locks.specs.declared.lock.Standing.TheVariants as S
 use Rattle.locks.specs.Fresh.{fresh_lock}
 use Rattle.locks.specs.Rules as L
@@ -26,12 +27,14 @@ use Rattle.locks.specs.Rules.{rank, Deed, nothing, stages_there, takes_over_ther
 use Rattle.agreement.specs.Seats.{Seats, count}
 use Rattle.agreement.specs.Calls.{Vault}
 use Rattle.agreement.proofs.Meet.{seats, Honest}
-use Rattle.agreement.proofs.Words.{Words, enrols, receipt, ready, refuses, result, Saying, says, Log, Said, here, there, spoken, lock_party}
+use Rattle.agreement.proofs.Words.{receipt, ready, result, Saying, says, Log, Said, there, spoken, lock_party}
 use Rattle.agreement.proofs.Core.{Receipt, Ready}
 use Rattle.agreement.proofs.Kept.{said_cases, none_said}
-use Rattle.agreement.proofs.Tools.{none_some, some_same, none_of, some_of, is_some, row_cases, row_blank, same_number_lem, passed_if, count_same, count_with, agree_count}
+use Rattle.agreement.proofs.Tools.{same_number_lem, count_same, count_with, agree_count}
 use Rattle.agreement.proofs.Mirror.{faults}
-use Rattle.agreement.proofs.Doors.{Frame, still, Leaves, stage_leaves, drop_leaves, Takes, take_over}
+use Rattle.agreement.proofs.Doors.{Frame, still, stage_leaves, drop_leaves, take_over}
+use Rattle.steps.proofs.Replies.{none_some, not_refused}
+use Rattle.steps.proofs.Rows.{row_cases, blank_row}
 
 -- s is no ready vote of lock p
 abbrev pub Quiet : Saying → ℕ → Type 0
@@ -82,11 +85,26 @@ lock_more {s = s} q m = record {
   stays = m.stays;
 }
 
+-- a lock that has not ended comes to another standing
+stands_otherwise : {R : Vault} {t : Seats} {l : Log} {p : ℕ} {was : Option KeyNumber} {k : Lock} {force : Option KeyNumber} {n : ℕ} → LockInv R t l p was k force n → (s : Standing) → rank k.standing ≤ 3
+    → (rank s ≡ 4 → ⊥) → (2 ≤ rank s → 2 ≤ rank k.standing) → (rank s ≤ 2 → rank k.standing ≤ 2) → (rank s ≡ 5 → rank k.standing ≤ 2) → LockInv R t l p was (L.with_standing k s) force (0 + n)
+stands_otherwise i s low unchanged enrolled unsaid kept = record {
+  slots = i.slots;
+  receipts = i.receipts;
+  results = i.results;
+  counted = omega (arith, i.counted);
+  enrolled = λ le. i.enrolled (enrolled le);
+  unsaid = λ le. i.unsaid (unsaid le);
+  kept = λ e. inl (i.unsaid (kept e));
+  changed = λ e. absurd (unchanged e);
+  stays = λ e. i.stays (λ z. omega (arith, low));
+}
+
 pub lock_blank : (R : Vault) (t : Seats) (p : ℕ) (was : Option KeyNumber) → LockInv R t [] p was (fresh_lock (place p)) was 0
 lock_blank R t p was = record {
   slots = refl;
-  receipts = λ h y e. absurd (none_some (row_blank 16 h None) e);
-  results = λ h x e. absurd (none_some (row_blank 16 h None) e);
+  receipts = λ h y e. absurd (none_some (blank_row 16 h) e);
+  results = λ h x e. absurd (none_some (blank_row 16 h) e);
   counted = omega arith;
   enrolled = λ le. absurd (omega arith);
   unsaid = λ le n a. none_said a;
@@ -118,38 +136,18 @@ staged_is (Some m) n e = ap Some (same_number_lem m n (eqb-true m.0 n.0 (not-fal
 module _ {R : Vault} {t : Seats} {l : Log} {was : Option KeyNumber} {m : Meaning} {n : ℕ} (k : Lock) (inv : t (lock_party k.place.0) ≡ false → LockInv R t l k.place.0 was k (in_force m k.place) n) where
   pub enrol_fine : Fine R t l was k m 0 n (L.enrol_rule k)
   enrol_fine = pass (L.may_apply k) _ (λ q. yes {j = L.with_standing k S.Applied} {bs = One (B.Enrol k.place)} refl still (λ o.
-      let i = inv o in let new : rank k.standing ≡ 0 = eqb-true _ _ (not-false _ (passed_if (not (eqb (rank k.standing) 0)) _ _ q).0) in
-      record {
-        slots = i.slots;
-        receipts = λ h y e. told_more (i.receipts h y e);
-        results = λ h x e. told_more (i.results h x e);
-        counted = omega (arith, i.counted);
-        enrolled = λ le. absurd (omega arith);
-        unsaid = λ le n a. elim (said_cases a) [ inl e ↦ (let z : ◌≡◌ {A = ℕ} 0 1 = cc in omega arith) | inr c ↦ i.unsaid (omega arith) n c ];
-        kept = λ e. absurd (omega arith);
-        changed = λ e. absurd (omega arith);
-        stays = λ e. i.stays (λ z. omega arith);
-      }))
+      let new : rank k.standing ≡ 0 = eqb-true _ _ (not-false _ (not_refused (not (eqb (rank k.standing) 0)) _ _ _ q).0) in
+      lock_more (λ n e. cc) (stands_otherwise (inv o) S.Applied (omega arith) (λ e. omega arith) (λ e. omega arith) (λ e. omega arith) (λ e. omega arith))))
 
   pub decline_fine : Fine R t l was k m 0 n (L.decline_rule k)
   decline_fine = pass (L.may_decline k) _ (λ q. yes {j = L.with_standing k S.Kept} {bs = Nothing} refl still (λ o.
-      let i = inv o in let en : rank k.standing ≡ 2 = eqb-true _ _ (not-false _ (passed_if (not (eqb (rank k.standing) 2)) _ _ q).0) in
-      record {
-        slots = i.slots;
-        receipts = i.receipts;
-        results = i.results;
-        counted = omega (arith, i.counted);
-        enrolled = λ le. i.enrolled (omega arith);
-        unsaid = λ le. absurd (omega arith);
-        kept = λ e. inl (i.unsaid (omega arith));
-        changed = λ e. absurd (omega arith);
-        stays = λ e. i.stays (λ z. omega arith);
-      }))
+      let en : rank k.standing ≡ 2 = eqb-true _ _ (not-false _ (not_refused (not (eqb (rank k.standing) 2)) _ _ _ q).0) in
+      stands_otherwise (inv o) S.Kept (omega arith) (λ e. omega arith) (λ e. omega arith) (λ e. omega arith) (λ e. omega arith)))
 
   pub summons_fine : (x : KeyNumber) → Fine R t l was k m 0 n (L.summons_rule k m x)
   summons_fine x = pass (L.may_summon k) _ (λ q.
-      let a = passed_if (ltb (rank k.standing) 2) _ _ q in
-      let b = passed_if (ltb 2 (rank k.standing)) _ _ a.1 in
+      let a = not_refused (ltb (rank k.standing) 2) _ _ _ q in
+      let b = not_refused (ltb 2 (rank k.standing)) _ _ _ a.1 in
       go (stages m k.place x) (omega (arith, ltb-false _ _ a.0, ltb-false _ _ b.0)))
     where
       go : (s : Bool) → rank k.standing ≡ 2 → Fine R t l was k m 0 n (L.summoned k s x)
@@ -164,23 +162,14 @@ module _ {R : Vault} {t : Seats} {l : Log} {was : Option KeyNumber} {m : Meaning
         changed = λ e. absurd (omega arith);
         stays = λ e. i.stays (λ z. omega arith);
       }))
-      go false en = yes {j = L.with_standing k S.Kept} {bs = One (B.Vote k.place x A.Refuse)} refl still (λ o. let i = inv o in record {
-        slots = i.slots;
-        receipts = λ h y e. told_more (i.receipts h y e);
-        results = λ h x e. told_more (i.results h x e);
-        counted = omega (arith, i.counted);
-        enrolled = λ le. i.enrolled (omega arith);
-        unsaid = λ le. absurd (omega arith);
-        kept = λ e. inl (λ n a. elim (said_cases a) [ inl e ↦ (let z : ◌≡◌ {A = ℕ} 0 1 = cc in omega arith) | inr c ↦ i.unsaid (omega arith) n c ]);
-        changed = λ e. absurd (omega arith);
-        stays = λ e. i.stays (λ z. omega arith);
-      })
+      go false en = yes {j = L.with_standing k S.Kept} {bs = One (B.Vote k.place x A.Refuse)} refl still (λ o.
+          lock_more (λ n e. cc) (stands_otherwise (inv o) S.Kept (omega arith) (λ e. omega arith) (λ e. omega arith) (λ e. omega arith) (λ e. omega arith)))
 
   pub receipt_fine : (h : Seat) (q : Place) → h.0 < seats (faults R) → (t h.0 ≡ false → Said (says h.0 (receipt q.0)) l) → Fine R t l was k m 1 n (L.receipt_rule R.sizes k h q)
   receipt_fine h q below said = pass (L.may_receipt k h q) _ (λ e.
-      let a = passed_if (not (eqb q.0 k.place.0)) _ _ e in
-      let b = passed_if (eqb (rank k.standing) 0) _ _ a.1 in
-      let c = passed_if (option_is_some (get_or k.receipts h.0 None) || ltb 1 (rank k.standing)) _ _ b.1 in
+      let a = not_refused (not (eqb q.0 k.place.0)) _ _ _ e in
+      let b = not_refused (eqb (rank k.standing) 0) _ _ _ a.1 in
+      let c = not_refused (option_is_some (get_or k.receipts h.0 None) || ltb 1 (rank k.standing)) _ _ _ b.1 in
       let d = or_parts (option_is_some (get_or k.receipts h.0 None)) _ c.0 in
       let at : q.0 ≡ k.place.0 = eqb-true _ _ (not-false _ a.0) in
       let past : rank k.standing ≤ 1 = ltb-false _ _ d.1 in
@@ -230,10 +219,10 @@ module _ {R : Vault} {t : Seats} {l : Log} {was : Option KeyNumber} {m : Meaning
 
   pub result_fine : (h : Seat) (x : Outcome) → h.0 < seats (faults R) → (t h.0 ≡ false → Said (says h.0 (result x)) l) → Fine R t l was k m 0 n (L.result_rule R.sizes k m h x)
   result_fine h x below said = pass (L.may_result k m h x) _ (λ e.
-      let a = passed_if (ltb (rank k.standing) 2) _ _ e in
-      let b = passed_if (ltb 3 (rank k.standing)) _ _ a.1 in
-      let c = passed_if (L.is_number x && eqb (rank k.standing) 2) _ _ b.1 in
-      let d = passed_if (L.strange (staged_at m k.place) x) _ _ c.1 in
+      let a = not_refused (ltb (rank k.standing) 2) _ _ _ e in
+      let b = not_refused (ltb 3 (rank k.standing)) _ _ _ a.1 in
+      let c = not_refused (L.is_number x && eqb (rank k.standing) 2) _ _ _ b.1 in
+      let d = not_refused (L.strange (staged_at m k.place) x) _ _ _ c.1 in
       cond_both (leb (faults R + 1) (count_agree same_outcome x recorded.results)) _ _ (Fine R t l was k m 0 n)
       (λ full. ends x refl (ltb-false _ _ a.0) (ltb-false _ _ b.0) d.0 (leb-true _ _ full))
       (λ _. yes {j = recorded} {bs = Nothing} refl still (λ o. let i = inv o in record {

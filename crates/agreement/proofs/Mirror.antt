@@ -1,38 +1,31 @@
 -- What a log says of an honest controller, group by group: each group names the fields that it reads.
-use Rattle.std.proofs.Common.{◌≡◌, ℕ, zero, suc, ◌+◌, ◌*◌, ◌%◌, ◌<◌, ◌≤◌, Bool, true, false, cond, not, ◌&&◌, ◌||◌, eqb, ltb, leb, ◌⊎◌, List, [], ◌∷◌, ◌++◌, length, get_or, set, is_some, Some, None, Option, sym, refl, ap, ◌∙◌, inl, inr, arith, length-set}
+use Rattle.std.proofs.Common.{◌≡◌, ℕ, ◌<◌, ◌≤◌, true, false, List, [], ◌∷◌, length, get_or, is_some, Some, None, Option, refl, arith}
 use Rattle.terms.specs.declared.numbers.KeyNumber.{KeyNumber}
-use Rattle.terms.specs.declared.numbers.Place.{Place}
-use Rattle.terms.specs.declared.numbers.Seat.{Seat}
-use Rattle.terms.specs.declared.numbers.View.{View}
 use Rattle.terms.specs.declared.parties.Outcome.{Outcome}
-use Rattle.terms.specs.declared.parties.Outcome.TheVariants.{Keep, Number}
-use Rattle.letters.specs.declared.sorts.Answer.{Answer}
 use Rattle.letters.specs.declared.sorts.Answer.TheVariants as A
-use Rattle.letters.specs.declared.sorts.Digest.{Digest}
 use Rattle.letters.specs.declared.sorts.Seal.{Seal}
-use Rattle.letters.specs.declared.sorts.SeatSet.{SeatSet}
 use Rattle.letters.specs.declared.certificates.Basis.{Basis}
 use Rattle.letters.specs.declared.certificates.Certificate.{Certificate}
 use Rattle.letters.specs.declared.certificates.Order.{Order}
 use Rattle.letters.specs.declared.certificates.Vote.{Vote}
-use Rattle.letters.specs.Certificates.{certificate_digest, result_of}
+use Rattle.letters.specs.Certificates.{certificate_digest}
 use Rattle.ballots.specs.declared.Pair.{Pair}
 use Rattle.controllers.specs.declared.controller.Controller.{Controller}
 use Rattle.controllers.specs.declared.controller.MoveRecord.{MoveRecord}
 use Rattle.controllers.specs.declared.controller.Proposal.{Proposal}
-use Rattle.controllers.specs.declared.controller.Round.{Round}
-use Rattle.agreement.specs.Seats.{Seats, count}
+use Rattle.agreement.specs.Seats.{Seats}
 use Rattle.agreement.specs.Calls.{Vault}
-use Rattle.agreement.proofs.Meet.{seats, Few, Honest, Backed, backed_map}
-use Rattle.agreement.proofs.Words.{Words, enrols, receipt, order, summons, ready, refuses, propose, assent, confirm, result, move, Brief, bare, built, brief, Saying, says, Log, Said, here, there, Assented, proposed, assented, lock_party, office}
+use Rattle.agreement.proofs.Meet.{seats, Honest, backed_map}
+use Rattle.agreement.proofs.Words.{receipt, confirm, result, move, Brief, brief, Saying, says, Log, Said, there, Assented, lock_party, office}
 use Rattle.terms.specs.Numbers.{view_of, seat}
 use Rattle.terms.specs.Parties.{leader_of}
-use Rattle.terms.specs.Sizes.{seat_count}
 use Rattle.controllers.specs.Letters.{fresh_controller}
 use Rattle.controllers.specs.Rules.{ordered_number}
 use Rattle.agreement.proofs.Core.{AtLeast, Supported, Decided, Confirmed, Moved, Receipt, Ready, Ordered}
 use Rattle.agreement.proofs.Kept.{assented_more, supported_more, none_said, none_assented}
-use Rattle.agreement.proofs.Tools.{Silent, Mute, older, older_voice, none_some, row_blank}
+use Rattle.agreement.proofs.Tools.{Silent, Mute, older, older_voice}
+use Rattle.steps.proofs.Replies.{none_some}
+use Rattle.steps.proofs.Rows.{blank_row}
 
 abbrev pub faults : Vault → ℕ
 faults R = R.sizes.faults
@@ -165,15 +158,15 @@ mirror_blank R t h = record {
   voiced = record { past = λ a. absurd (none_assented a); spoke = λ a. absurd (none_assented a); closed = λ a. absurd (none_assented a) };
   hears = record {
     led = λ q e o. absurd (none_some refl e);
-    assents = λ k z e. absurd (none_some (row_blank 16 k None) e);
+    assents = λ k z e. absurd (none_some (blank_row 16 k) e);
     certified = λ q e. absurd (none_some refl e);
     digested = λ q e. absurd (none_some refl e);
-    leadless = row_blank 16 (lead R 0) None;
-    confirms = λ k z e. absurd (none_some (row_blank 16 k None) e);
+    leadless = blank_row 16 (lead R 0);
+    confirms = λ k z e. absurd (none_some (blank_row 16 k) e);
   };
   based = record { basis = λ y e. absurd (none_some refl e); bound = λ a. absurd (none_said a) };
-  records = record { moved = λ a. absurd (none_said a); record_of = λ k r e. absurd (none_some (row_blank 16 k None) e) };
+  records = record { moved = λ a. absurd (none_said a); record_of = λ k r e. absurd (none_some (blank_row 16 k) e) };
   rolled = record { slots = refl; on_roll = λ a. absurd (none_said a) };
-  votes = record { ordered = λ e. absurd (none_some refl e); voted = λ p v e. absurd (none_some (row_blank 8 p None) e); under = λ p v e. absurd (none_some (row_blank 8 p None) e) };
+  votes = record { ordered = λ e. absurd (none_some refl e); voted = λ p v e. absurd (none_some (blank_row 8 p) e); under = λ p v e. absurd (none_some (blank_row 8 p) e) };
   results = record { decided = λ x e. absurd (none_some refl e); told = λ a. absurd (none_said a) };
 }

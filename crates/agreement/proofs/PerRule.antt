@@ -1,56 +1,53 @@
 -- One lemma a rule: served by an honest controller, it keeps what the log says of it.
-use Rattle.std.proofs.Common.{◌≡◌, ℕ, zero, suc, ◌+◌, ◌*◌, ◌%◌, ◌^◌, ◌<◌, ◌≤◌, Bool, true, false, cond, not, ◌&&◌, ◌||◌, eqb, ltb, leb, ◌⊎◌, List, [], ◌∷◌, ◌++◌, length, get_or, set, is_some, Some, None, Ok, Err, Option, Result as Res, sym, refl, ap, ◌∙◌, inl, inr, arith, length-set}
+use Rattle.std.proofs.Common.{◌≡◌, ℕ, ◌+◌, ◌*◌, ◌^◌, ◌<◌, ◌≤◌, Bool, true, false, cond, not, ◌&&◌, eqb, ltb, leb, ◌⊎◌, ◌∷◌, ◌++◌, get_or, set, is_some, Some, None, Ok, Err, Option, Result as Res, sym, refl, ap, ◌∙◌, inl, inr, arith}
 use Rattle.terms.specs.declared.numbers.KeyNumber.{KeyNumber}
 use Rattle.terms.specs.declared.numbers.Place.{Place}
 use Rattle.terms.specs.declared.numbers.Seat.{Seat}
 use Rattle.terms.specs.declared.numbers.View.{View}
 use Rattle.terms.specs.declared.parties.Outcome.{Outcome}
-use Rattle.terms.specs.declared.parties.Outcome.TheVariants.{Keep, Number}
 use Rattle.letters.specs.declared.sorts.Answer.{Answer}
-use Rattle.letters.specs.declared.sorts.Answer.TheVariants as A
 use Rattle.letters.specs.declared.sorts.Digest.{Digest}
 use Rattle.letters.specs.declared.sorts.Seal.{Seal}
 use Rattle.letters.specs.declared.sorts.SeatSet.{SeatSet}
 use Rattle.letters.specs.declared.certificates.Basis.{Basis}
 use Rattle.letters.specs.declared.certificates.Certificate.{Certificate}
 use Rattle.letters.specs.declared.certificates.Order.{Order}
-use Rattle.letters.specs.declared.certificates.Vote.{Vote}
 use Rattle.letters.specs.Certificates.{certificate_digest, result_of}
 use Rattle.ballots.specs.declared.Pair.{Pair}
 use Rattle.controllers.specs.declared.controller.Controller.{Controller}
 use Rattle.controllers.specs.declared.controller.MoveRecord.{MoveRecord}
 use Rattle.controllers.specs.declared.controller.Proposal.{Proposal}
-use Rattle.controllers.specs.declared.controller.Round.{Round}
 use Rattle.agreement.specs.Seats.{Seats, count}
 use Rattle.agreement.specs.Calls.{Vault}
-use Rattle.agreement.proofs.Meet.{seats, Few, Honest, Backed, backed_map}
-use Rattle.agreement.proofs.Words.{Words, enrols, receipt, order, summons, ready, refuses, propose, assent, confirm, result, move, Brief, bare, built, brief, Saying, says, Log, Said, here, there, Assented, proposed, assented, lock_party, office}
+use Rattle.agreement.proofs.Meet.{seats, Honest}
+use Rattle.agreement.proofs.Words.{order, propose, assent, confirm, result, move, brief, says, Log, Said, Assented, proposed, assented, lock_party, office}
 use lib.Count.{ones}
-use Rattle.std.proofs.lemmas.Bool.{cond_both, both_ways, cases_Bool, eq-eqb, eqb-true, eqb-false, and_parts, and_cases, leb-true, ltb-true, ltb-false, not-true, not-false, true≢false}
+use Rattle.std.proofs.lemmas.Bool.{cond_both, both_ways, cases_Bool, eqb-true, eqb-false, and_parts, and_cases, leb-true, ltb-true, ltb-false, not-true, not-false}
 use Rattle.terms.specs.declared.refusals.RuleCause.{RuleCause}
 use Rattle.terms.specs.Numbers.{view_of}
 use Rattle.terms.specs.Sizes.{seat_count, quorum_of}
-use Rattle.letters.specs.Bytes.{map_of}
 use Rattle.letters.specs.Inner.{certificate_borne, basis_borne, grounds_borne}
-use Rattle.letters.specs.Ranges.{grounds_fit, basis_fits, movers_fit}
-use Rattle.letters.specs.Sorts.{stands, seat_set}
+use Rattle.letters.specs.Ranges.{grounds_fit, movers_fit}
+use Rattle.letters.specs.Sorts.{seat_set}
 use Rattle.ballots.specs.Counts.{votes_for, count_agree}
 use Rattle.ballots.specs.Kinds.{same_outcome, same_pair}
-use Rattle.posting.specs.declared.few.AtMostTwo.TheVariants.{Nothing, One, Two}
-use Rattle.posting.specs.Replies.{Reply, refused, served, Bodies, refuse_if, given, passing}
+use Rattle.posting.specs.Replies.{Reply, served, Bodies, passing}
 use Rattle.controllers.specs.declared.controller.Draft.{Draft}
 use Rattle.controllers.specs.Choice.{same_view, stands_in, names, best, all_recorded, covers, picked}
 use Rattle.controllers.specs.Rules as C
-use Rattle.agreement.specs.Runs.{Among, here as first, there as later}
-use Rattle.agreement.proofs.Words.{words_of, spoken, voted}
-use Rattle.agreement.proofs.Core.{Included, Supported, Chosen, Free, Ground, first as ground-first, chosen, free, Confirmed, Moved, Receipt, Ready, Ordered}
+use Rattle.agreement.proofs.Words.{spoken, voted}
+use Rattle.agreement.proofs.Core.{Included, Supported, Ground, first as ground-first, chosen, free, Confirmed}
 use Rattle.agreement.proofs.Kept.{step}
-use Rattle.agreement.proofs.Tools.{silent_kind, none_some, some_same, err_ok, same_number_lem, same_outcome_lem, same_pair_lem, passed_if, passed_given, in_left, in_right, agree_count, count_same, count_grows, count_within}
+use Rattle.agreement.proofs.Tools.{silent_kind, same_number_lem, same_pair_lem, in_left, in_right, agree_count, count_same, count_grows, count_within}
 use Rattle.agreement.proofs.Choices.{names_some, recorded_at, covers_at, ones_count, zero_stands, picked_names, picked_enough}
-use Rattle.agreement.proofs.Mirror.{faults, lead, Certified, Sound-record, Mirror, mirror_more}
+use Rattle.agreement.proofs.Mirror.{faults, lead, Certified, Mirror, mirror_more}
 use Rattle.agreement.proofs.Steps.{Good, shifts, enrols_one, orders_one, votes_one, records_one, hears_assent, hears_confirm}
-use Rattle.agreement.proofs.Voices.{assents_own, proposes_own, confirms_own, concludes_one, lead_below}
+use Rattle.agreement.proofs.Voices.{assents_own, proposes_own, confirms_own, concludes_one}
 use Rattle.agreement.proofs.Turns.{Keeps, no, yes, Vouched, included_from, cert_order, cert_votes, basis_supported, movers_chosen, movers_certified, movers_free}
+use Rattle.std.proofs.lemmas.Option.{same_Some}
+use Rattle.steps.proofs.Turns.{order_none, drafted_some}
+use Rattle.steps.proofs.Replies.{is_eq, none_some, same_outcome_lem, not_refused, was_given}
+use Rattle.roundtrip.proofs.Bases.{grounded}
 
 pass : {R : Vault} {t : Seats} {l : Log} {h : ℕ} (gate : Res (Unit {0}) RuleCause) (rest : Reply RuleCause Controller) → (gate ≡ Ok tt → Keeps R t l h rest) → Keeps R t l h (passing gate rest)
 pass (Err e) rest k = no
@@ -64,41 +61,18 @@ cond_twice false x y u v P one two = two refl
 said_as : (P : ℕ → Outcome → ℕ → Type 0) (v w : ℕ) (x y : Outcome) (d e : Digest) → v ≡ w → x ≡ y → d ≡ e → P v x d.0 → P w y e.0
 said_as P v w x y d e a b c s = rw (a, b, c) at s
 
-is_eq : (a b : ℕ) → not (eqb a b) ≡ false → a ≡ b
-is_eq a b q = eqb-true a b (not-false _ q)
-
 ordered : (x : Option Order) (m : KeyNumber) → C.ordered_number x ≡ Some m → is_some x ≡ true
 ordered None m e = absurd (none_some refl e)
 ordered (Some y) m e = refl
-
-unordered : (x : Option Order) (n : Option KeyNumber) → C.may_order x n ≡ Ok tt → x ≡ None
-unordered None n e = refl
-unordered (Some y) n e = absurd (err_ok (passed_if (C.same_number y.number n) _ _ e).1)
-
--- the parts of a basis within range
-record Fitting (R : Vault) (v : View) (b : Basis) : Type 0 where
-  earlier : b.view.0 < v.0
-  seats_below : map_of is_some b.assents < 2 ^ seat_count R.sizes
-  full : ones (map_of is_some b.assents) ≡ 2 * faults R
-  leadless : stands (map_of is_some b.assents) (lead R b.view.0) ≡ false
-
-fitting : (R : Vault) (v : View) (b : Basis) → basis_fits R.sizes R.change v b ≡ true → Fitting R v b
-fitting R v b e =
-    let p1 = and_parts (ltb b.view.0 v.0) _ e in
-    let p2 = and_parts (eqb (length b.assents) 16) _ p1.1 in
-    let p3 = and_parts (ltb (map_of is_some b.assents) (2 ^ seat_count R.sizes)) _ p2.1 in
-    let p4 = and_parts (eqb (ones (map_of is_some b.assents)) (2 * faults R)) _ p3.1 in
-    let p5 = and_parts (not (stands (map_of is_some b.assents) (lead R b.view.0))) _ p4.1 in
-    record { earlier = ltb-true _ _ p1.0; seats_below = ltb-true _ _ p3.0; full = eqb-true _ _ p4.0; leadless = not-true _ p5.0 }
 
 move_basis : (R : Vault) (t : Seats) (l : Log) (v : View) (b : Option Basis) → grounds_fit R.sizes R.change v b ≡ true → Vouched t l (grounds_borne R.sizes R.change b) → (y : Basis) → b ≡ Some y
     → (y.view.0 < v.0) × Supported (faults R) t l y.view.0 y.outcome (certificate_digest y.certificate).0 × Certified t l y.certificate
 move_basis R t l v None fit vouch y e = absurd (none_some refl e)
 move_basis R t l v (Some b) fit vouch y e =
-    let p = fitting R v b fit in
-    rw (← (some_same e)) (
-      p.earlier,
-      basis_supported R t l b (λ x i. vouch x (in_left (basis_borne R.sizes R.change b) (certificate_borne R.change b.certificate) i)) p.seats_below p.full p.leadless,
+    let p = grounded R.sizes R.change v b fit in
+    rw (← (same_Some _ _ e)) (
+      ltb-true _ _ p.below,
+      basis_supported R t l b (λ x i. vouch x (in_left (basis_borne R.sizes R.change b) (certificate_borne R.change b.certificate) i)) p.low p.many (not-true _ p.others),
       cert_order R.change t l b.certificate (λ x i. vouch x (in_right (basis_borne R.sizes R.change b) (certificate_borne R.change b.certificate) i)),
     )
 
@@ -117,10 +91,10 @@ module _ {R : Vault} {t : Seats} {l : Log} (c : Controller) (o : Honest (faults 
   ring_turn = pass (C.may_ring c) _ (λ _. yes (shifts c o g (view_of (c.view.0 + 1)) (omega arith)))
 
   pub enrol_turn : (p : Place) (z : Seal) → p.0 < R.sizes.locks → Keeps R t l c.seat.0 (C.enrol_rule c p z)
-  enrol_turn p z lt = pass (C.may_enrol c p) _ (λ e. yes (enrols_one c o g p z (passed_if (is_some c.order) _ _ e).0 lt))
+  enrol_turn p z lt = pass (C.may_enrol c p) _ (λ e. yes (enrols_one c o g p z (not_refused (is_some c.order) _ _ _ e).0 lt))
 
   pub order_turn : (n : Option KeyNumber) (z : Seal) → (t office ≡ false → Said (says office (order n)) l) → Keeps R t l c.seat.0 (C.order_rule c n z)
-  order_turn n z said = pass (C.may_order c.order n) _ (λ e. go n (unordered c.order n e) said)
+  order_turn n z said = pass (C.may_order c.order n) _ (λ e. go n (order_none c.order n e) said)
     where
       go : (n : Option KeyNumber) → c.order ≡ None → (t office ≡ false → Said (says office (order n)) l) → Keeps R t l c.seat.0 (served (C.with_order c (Some (C.order n z))) (C.summons c.seat n z))
       go None e said = yes (orders_one c o g (C.order None z) (ap {A = Option Order} is_some e) (λ k r loyal. absurd (none_some refl r)))
@@ -130,32 +104,32 @@ module _ {R : Vault} {t : Seats} {l : Log} (c : Controller) (o : Honest (faults 
 
   pub vote_turn : (p : Place) (n : KeyNumber) (a : Answer) (z : Seal) → (t (lock_party p.0) ≡ false → Said (says (lock_party p.0) (voted (Some n) a)) l) → Keeps R t l c.seat.0 (C.vote_rule c p n a z)
   vote_turn p n a z said = pass (C.may_vote c p n) _ (λ e.
-      let q = passed_given (C.ordered_number c.order) _ _ e in
-      let r = passed_if (not (is_some (get_or c.registered p.0 None))) _ _ q.2 in
-      let s = passed_if (not (eqb q.0.0 n.0)) _ _ r.1 in
-      let same : n ≡ q.0 = same_number_lem n q.0 (sym (is_eq q.0.0 n.0 s.0)) in
-      yes (votes_one c o g p.0 q.0 (record { answer = a; seal = z }) q.1 (ordered c.order q.0 q.1) (λ y loyal. rw (y, same) at (said loyal))))
+      let q = was_given (C.ordered_number c.order) _ _ e in
+      let r = not_refused (not (is_some (get_or c.registered p.0 None))) _ _ _ q.then in
+      let s = not_refused (not (eqb q.value.0 n.0)) _ _ _ r.1 in
+      let same : n ≡ q.value = same_number_lem n q.value (sym (is_eq q.value.0 n.0 s.0)) in
+      yes (votes_one c o g p.0 q.value (record { answer = a; seal = z }) q.is (ordered c.order q.value q.is) (λ y loyal. rw (y, same) at (said loyal))))
 
   pub confirm_turn : (k : Seat) (v : View) (x : Pair) → k.0 < seats (faults R) → (t k.0 ≡ false → Said (says k.0 (confirm v.0 x.outcome x.digest.0)) l) → Keeps R t l c.seat.0 (C.confirm_rule R.sizes c k v x)
   confirm_turn k v x below said = pass (C.may_confirm c k v x) _ (λ e.
-      let q = passed_if (not (eqb v.0 c.view.0)) _ _ e in
-      let r = passed_given c.round.proposal _ _ q.1 in
-      let s = passed_if (not (same_pair x (C.pair_of r.0))) _ _ r.2 in
-      let same = same_pair_lem x (C.pair_of r.0) (not-false _ s.0) in
-      concluded (C.with_round c (C.confirmed c.round k x)) o x r.0 r.1 same.0 _ _ refl
-      (hears_confirm c o g k x r.0 r.1 below (λ honest. said_as (λ u y d. Confirmed l k.0 u y d) _ _ _ _ _ _ (is_eq v.0 c.view.0 q.0) same.0 same.1 (said honest.loyal))))
+      let q = not_refused (not (eqb v.0 c.view.0)) _ _ _ e in
+      let r = was_given c.round.proposal _ _ q.1 in
+      let s = not_refused (not (same_pair x (C.pair_of r.value))) _ _ _ r.then in
+      let same = same_pair_lem x (C.pair_of r.value) (not-false _ s.0) in
+      concluded (C.with_round c (C.confirmed c.round k x)) o x r.value r.is same.0 _ _ refl
+      (hears_confirm c o g k x r.value r.is below (λ honest. said_as (λ u y d. Confirmed l k.0 u y d) _ _ _ _ _ _ (is_eq v.0 c.view.0 q.0) same.0 same.1 (said honest.loyal))))
 
   pub assent_turn : (k : Seat) (v : View) (x : Pair) (z : Seal) → k.0 < seats (faults R) → (k.0 ≡ lead R v.0 → ⊥) → (t k.0 ≡ false → Said (says k.0 (assent v.0 x.outcome x.digest.0)) l) → Keeps R t l c.seat.0 (C.assent_rule R.sizes c k v x z)
   unfolding C.confirming
   assent_turn k v x z below other said = pass (C.may_assent R.sizes c k v x) _ (λ e.
-      let q = passed_if (not (eqb v.0 c.view.0)) _ _ e in
-      let r = passed_given c.round.proposal _ _ q.1 in
-      let s = passed_if (not (same_pair x (C.pair_of r.0))) _ _ r.2 in
-      let same = same_pair_lem x (C.pair_of r.0) (not-false _ s.0) in
+      let q = not_refused (not (eqb v.0 c.view.0)) _ _ _ e in
+      let r = was_given c.round.proposal _ _ q.1 in
+      let s = not_refused (not (same_pair x (C.pair_of r.value))) _ _ _ r.then in
+      let same = same_pair_lem x (C.pair_of r.value) (not-false _ s.0) in
       let w : v.0 ≡ c.view.0 = is_eq v.0 c.view.0 q.0 in
-      let g1 = hears_assent c o g k x z r.0 r.1 below (λ i. other (i ∙ ap (lead R) (sym w))) (λ honest. said_as (λ u y d. Assented l k.0 u y d) _ _ _ _ _ _ w same.0 same.1 (assented (said honest.loyal))) in
+      let g1 = hears_assent c o g k x z r.value r.is below (λ i. other (i ∙ ap (lead R) (sym w))) (λ honest. said_as (λ u y d. Assented l k.0 u y d) _ _ _ _ _ _ w same.0 same.1 (assented (said honest.loyal))) in
       cond_both (leb (2 * faults R) (count_agree same_pair x heard.round.assents)) _ _ (Keeps R t l c.seat.0)
-      (λ full. go r.0 c.round.proposal refl r.1 same.0 same.1 (leb-true _ _ full) g1)
+      (λ full. go r.value c.round.proposal refl r.is same.0 same.1 (leb-true _ _ full) g1)
       (λ _. yes g1))
     where
       heard : Controller
@@ -165,7 +139,7 @@ module _ {R : Vault} {t : Seats} {l : Log} (c : Controller) (o : Honest (faults 
           → Good R t l c.seat.0 heard → Keeps R t l c.seat.0 (C.confirming R.sizes heard x h)
       go p None now e xo xd full g1 = absurd (none_some refl e)
       go p (Some y) now e xo xd full g1 =
-          let i : p ≡ y = sym (some_same e) in
+          let i : p ≡ y = sym (same_Some _ _ e) in
           let yo : x.outcome ≡ y.outcome = xo ∙ ap {A = Proposal} (λ q. q.outcome) i in
           let yd : x.digest ≡ y.digest = xd ∙ ap {A = Proposal} (λ q. q.digest) i in
           concluded (C.confirmed_own heard y x) o x y now yo _ _ refl (confirms_own heard o g1 y now x yo yd full)
@@ -199,7 +173,7 @@ module _ {R : Vault} {t : Seats} {l : Log} (c : Controller) (o : Honest (faults 
       → Certified t l k → Vouched t l (certificate_borne R.change k)
       → (r : Option Basis) → C.choice c ms ≡ r → C.may_choose c x k (certificate_digest k) r ≡ Ok tt → Ground (faults R) t l c.seat.0 c.view.0 x (certificate_digest k).0
   held_ground ms x k outc enough recorded certified vouch (Some b) e may =
-      let q = passed_if (not (same_pair (C.pair x (certificate_digest k)) (C.pair b.outcome (certificate_digest b.certificate)))) _ _ may in
+      let q = not_refused (not (same_pair (C.pair x (certificate_digest k)) (C.pair b.outcome (certificate_digest b.certificate)))) _ _ _ may in
       let a = same_pair_lem (C.pair x (certificate_digest k)) (C.pair b.outcome (certificate_digest b.certificate)) (not-false _ q.0) in
       elim (choice_cases c ms (Some b) e) [
         | inl w ↦ absurd (none_some w.1 refl)
@@ -207,28 +181,25 @@ module _ {R : Vault} {t : Seats} {l : Log} (c : Controller) (o : Honest (faults 
       ]
   held_ground ms x k outc enough recorded certified vouch None e may =
       elim (choice_cases c ms None e) [
-        | inl w ↦ ground-first w.0 inc
-        | inr w ↦ free (record { none = movers_free c m ms.0 (enough w.0) recorded w.1; included = inc })
+        | inl w ↦ ground-first w.0 covered
+        | inr w ↦ free (record { none = movers_free c m ms.0 (enough w.0) recorded w.1; included = covered })
       ]
     where
       covered : Included t l c.seat.0 x
       covered = included_from R t l c.seat.0 k x outc
           (λ p a. let r = m.rolled.on_roll a in
-          (r.0, covers_at c.registered k.enrolled 8 (not-false _ (passed_if (not (covers c.registered k.enrolled 8)) _ _ may).0) p (omega (arith, r.0, R.sizes.locks_range)) r.1))
+          (r.0, covers_at c.registered k.enrolled 8 (not-false _ (not_refused (not (covers c.registered k.enrolled 8)) _ _ _ may).0) p (omega (arith, r.0, R.sizes.locks_range)) r.1))
           (cert_votes R t l k vouch) certified
-
-      inc : Included t l c.seat.0 x
-      inc = covered
 
   pub proposal_turn : (v : View) (x : Outcome) (k : Certificate) (ms : SeatSet) (z own : Seal) → movers_fit R.sizes v ms.0 ≡ true
       → (t (lead R v.0) ≡ false → Said (says (lead R v.0) (propose v.0 x (certificate_digest k).0)) l) → Vouched t l (certificate_borne R.change k)
       → Keeps R t l c.seat.0 (C.proposal_rule R.sizes R.change c v x k ms z own)
   proposal_turn v x k ms z own fit said vouch = pass (C.may_hold R.sizes R.change c v x k (certificate_digest k) ms) _ (λ e.
-      let a1 = passed_if (not (eqb v.0 c.view.0)) _ _ e in
-      let a2 = passed_if (C.leads R.sizes R.change c) _ _ a1.1 in
-      let a3 = passed_if (is_some c.round.proposal) _ _ a2.1 in
-      let a4 = passed_if (not (same_outcome (result_of k) x)) _ _ a3.1 in
-      let a5 = passed_if (not (all_recorded c.records ms.0 c.view 16)) _ _ a4.1 in
+      let a1 = not_refused (not (eqb v.0 c.view.0)) _ _ _ e in
+      let a2 = not_refused (C.leads R.sizes R.change c) _ _ _ a1.1 in
+      let a3 = not_refused (is_some c.round.proposal) _ _ _ a2.1 in
+      let a4 = not_refused (not (same_outcome (result_of k) x)) _ _ _ a3.1 in
+      let a5 = not_refused (not (all_recorded c.records ms.0 c.view 16)) _ _ _ a4.1 in
       let now : v.0 ≡ c.view.0 = is_eq v.0 c.view.0 a1.0 in
       yes (assents_own c o g x k z own a3.0 (λ q. eqb-false (lead R c.view.0) c.seat.0 a2.0 (sym q)) (led c.view.0 now) certified
       (held_ground ms x k (same_outcome_lem (result_of k) x (not-false _ a4.0)) (many v ms.0 fit now)
@@ -280,7 +251,7 @@ module _ {R : Vault} {t : Seats} {l : Log} (c : Controller) (o : Honest (faults 
       → (d : Draft) → C.draft_from c low r ≡ Some d → (own : Seal) → Keeps R t l c.seat.0 (C.proposed c d own)
   own_draft_holds z none leads enough (Some b) e d q own = elim (choice_cases c low (Some b) e) [
     | inl w ↦ absurd (none_some w.1 refl)
-    | inr w ↦ rw (← (some_same q)) (yes (proposes_own c o g b.outcome b.certificate own none leads
+    | inr w ↦ rw (← (same_Some _ _ q)) (yes (proposes_own c o g b.outcome b.certificate own none leads
         (movers_certified c m low.0 (own_many (enough w.0) w.0) (λ i lt s. own_recorded i s) b w.1)
         (chosen (movers_chosen c m low.0 (own_many (enough w.0) w.0) (λ i lt s. own_recorded i s) b w.1))))
   ]
@@ -292,25 +263,17 @@ module _ {R : Vault} {t : Seats} {l : Log} (c : Controller) (o : Honest (faults 
           let held : (n : KeyNumber) → y.number ≡ Some n → C.ordered_number c.order ≡ Some n = λ n r. rw f r in
           let cert : Certified t l (C.own_certificate c y) = record { ordered = λ n r loyal. m.votes.ordered (held n r) loyal } in
           let inc : Included t l c.seat.0 (result_of (C.own_certificate c y)) = included_from R t l c.seat.0 (C.own_certificate c y) (result_of (C.own_certificate c y)) refl (λ p a. m.rolled.on_roll a) (λ n p v r lt a b loyal. m.votes.voted p v a b loyal n (held n r)) cert in
-          rw (← (some_same q)) (yes (proposes_own c o g (result_of (C.own_certificate c y)) (C.own_certificate c y) own none leads cert (own_ground _ (C.own_certificate c y) inc e enough)))
+          rw (← (same_Some _ _ q)) (yes (proposes_own c o g (result_of (C.own_certificate c y)) (C.own_certificate c y) own none leads cert (own_ground _ (C.own_certificate c y) inc e enough)))
 
   pub propose_turn : (own : Seal) → Keeps R t l c.seat.0 (C.propose_rule R.sizes R.change c own)
   propose_turn own = go (C.may_propose R.sizes R.change c) refl
     where
-      drafts : (x : Option Draft) (d : Draft) → C.drafted x ≡ Ok d → x ≡ Some d
-      drafts None d e = absurd (err_ok e)
-      drafts (Some y) d e = ap Some (let z : y ≡ d = cc in z)
-
-      open_gate : (b : Bool) (e : RuleCause) (rest : Res Draft RuleCause) (d : Draft) → cond b (Err e) rest ≡ Ok d → (b ≡ false) × (rest ≡ Ok d)
-      open_gate true e rest d q = absurd (err_ok q)
-      open_gate false e rest d q = (refl, q)
-
       go : (r : Res Draft RuleCause) → C.may_propose R.sizes R.change c ≡ r → Keeps R t l c.seat.0 (C.proposing c r own)
       go (Err e) q = no
       go (Ok d) q =
-          let a1 = open_gate (not (C.leads R.sizes R.change c)) _ _ d q in
-          let a2 = open_gate (is_some c.round.proposal) _ _ d a1.1 in
-          let a3 = open_gate (not (eqb c.view.0 0) && ltb (C.record_count c c.view) (quorum_of R.sizes)) _ _ d a2.1 in
+          let a1 = not_refused (not (C.leads R.sizes R.change c)) _ _ d q in
+          let a2 = not_refused (is_some c.round.proposal) _ _ d a1.1 in
+          let a3 = not_refused (not (eqb c.view.0 0) && ltb (C.record_count c c.view) (quorum_of R.sizes)) _ _ d a2.1 in
           own_draft_holds own a2.0 (sym (is_eq (lead R c.view.0) c.seat.0 a1.0))
           (λ w. elim (and_cases (not (eqb c.view.0 0)) _ a3.0) [ inl s ↦ absurd (both_ways _ w (not-false _ s)) | inr s ↦ ltb-false _ _ s ])
-          (C.choice c low) refl d (drafts (C.draft_of R.sizes c) d a3.1) own
+          (C.choice c low) refl d (drafted_some (C.draft_of R.sizes c) d a3.1) own

@@ -1,5 +1,5 @@
 -- A unit speaks under its own name alone, and what it says does not concern the others.
-use Rattle.std.proofs.Common.{◌≡◌, ℕ, ◌+◌, ◌*◌, ◌<◌, ◌≤◌, Bool, true, false, cond, not, ◌&&◌, ◌||◌, eqb, ltb, leb, List, [], ◌∷◌, ◌++◌, set, Some, None, Ok, Err, Option, Result as Res, sym, refl, ap, ◌∙◌, arith}
+use Rattle.std.proofs.Common.{◌≡◌, ℕ, ◌+◌, ◌*◌, Bool, true, cond, not, ◌&&◌, eqb, ltb, leb, ◌∷◌, ◌++◌, set, Some, None, Ok, Err, Option, Result as Res, refl, ap}
 use Rattle.std.proofs.lemmas.Bool.{cond_both}
 use Rattle.terms.specs.declared.numbers.Change.{Change}
 use Rattle.terms.specs.declared.numbers.KeyNumber.{KeyNumber}
@@ -36,11 +36,11 @@ use Rattle.steps.specs.Steps.{ControllerStep, to_controller, rings, proposes, co
 use Rattle.agreement.specs.Seats.{Seats}
 use Rattle.agreement.specs.Calls.{Vault}
 use Rattle.agreement.proofs.Meet.{Honest}
-use Rattle.agreement.proofs.Words.{Words, enrols, receipt, order, summons, ready, refuses, propose, assent, confirm, result, move, says, Log, words, saying, spoken, lock_party}
+use Rattle.agreement.proofs.Words.{Words, receipt, propose, assent, confirm, move, says, Log, words, saying, spoken, lock_party}
 use Rattle.agreement.proofs.Core.{Rules, Allowed}
 use Rattle.agreement.proofs.Kept as K
 use Rattle.agreement.proofs.Tools.{silent_other}
-use Rattle.agreement.proofs.Mirror.{faults, Mirror, mirror_more}
+use Rattle.agreement.proofs.Mirror.{Mirror, mirror_more}
 use Rattle.agreement.proofs.Locks.{LockInv, lock_more}
 
 -- every letter is of this sender
@@ -73,18 +73,16 @@ confirming_own sizes u x (Some p) = yes (from_cond (C.concludes sizes (C.confirm
 
 body_own : (sizes : Sizes) (t : Change) (u : Controller) (b : Body Certificate Basis) (z own : Seal) → Own (P.Controller u.seat) (CL.body_rule sizes t u b z own)
 body_own sizes t u (B.Enrol p) z own = pass (C.may_enrol u p) _ (yes (one refl))
-body_own sizes t u (B.Receipt s p) z own = no
 body_own sizes t u (B.Order n) z own = pass (C.may_order u.order n) _ (yes (summons_own u.seat n z))
-body_own sizes t u (B.Summons s n o) z own = no
 body_own sizes t u (B.Vote p n a) z own = pass (C.may_vote u p n) _ (yes none)
 body_own sizes t u (B.Proposal s v x c m) z own = pass (C.may_hold sizes t u v x c _ m) _ (yes (one refl))
 body_own sizes t u (B.Assent s v x d) z own = pass (C.may_assent sizes u s v (C.pair x d)) _
     (cond_both (leb (2 * sizes.faults) (count_agree same_pair (C.pair x d) (C.assented u.round s (C.pair x d) z).assents)) _ _ (λ (r : Reply RuleCause Controller). Own (P.Controller u.seat) r)
     (λ _. confirming_own sizes (C.with_round u (C.assented u.round s (C.pair x d) z)) (C.pair x d) u.round.proposal) (λ _. yes none))
 body_own sizes t u (B.Confirm s v x d) z own = pass (C.may_confirm u s v (C.pair x d)) _ (yes (from_cond (C.concludes sizes (C.with_round u (C.confirmed u.round s (C.pair x d))) (C.pair x d)) _ _ (one refl) none))
-body_own sizes t u (B.Result s x) z own = no
 body_own sizes t u (B.Move s v b) z own = pass (C.may_move u s v b) _
     (cond_both (ltb u.view.0 v.0 && leb (sizes.faults + 1) (C.record_count (C.with_records u (set u.records s.0 (Some (C.move_record v b)))) v)) _ _ (λ (r : Reply RuleCause Controller). Own (P.Controller u.seat) r) (λ _. yes (one refl)) (λ _. yes none))
+body_own sizes t u b z own = no
 
 proposing_own : (u : Controller) (r : Res Draft RuleCause) (own : Seal) → Own (P.Controller u.seat) (C.proposing u r own)
 proposing_own u (Err e) own = no
@@ -114,24 +112,18 @@ decline_own k = pass_lock (L.may_decline k) _ (yes_lock none)
 
 summoned_own : (k : Lock) (b : Bool) (n : KeyNumber) → OwnLock (P.Lock k.place) (L.summoned k b n)
 summoned_own k true n = yes_lock (one refl)
-summoned_own k false n = yes_lock (one refl)
+summoned_own k b n = yes_lock (one refl)
 
 ended_own : (q : Party) (k : Lock) (x : Outcome) → OwnLock q (L.ended_by k x)
 ended_own q k Keep = yes_lock none
 ended_own q k (Number n) = yes_lock none
 
 lock_body_own : {C D : Type 0} (sizes : Sizes) (k : Lock) (m : Meaning) (b : Body C D) → OwnLock (P.Lock k.place) (LL.body_rule sizes k m b)
-lock_body_own sizes k m (B.Enrol p) = no_lock
 lock_body_own sizes k m (B.Receipt s p) = pass_lock (L.may_receipt k s p) _ (yes_lock none)
-lock_body_own sizes k m (B.Order n) = no_lock
 lock_body_own sizes k m (B.Summons s n z) = pass_lock (L.may_summon k) _ (summoned_own k (stages m k.place n) n)
-lock_body_own sizes k m (B.Vote p n a) = no_lock
-lock_body_own sizes k m (B.Proposal s v x c ms) = no_lock
-lock_body_own sizes k m (B.Assent s v x d) = no_lock
-lock_body_own sizes k m (B.Confirm s v x d) = no_lock
 lock_body_own sizes k m (B.Result s x) = pass_lock (L.may_result k m s x) _
     (cond_both (leb (sizes.faults + 1) (count_agree same_outcome x (L.resulted k s x).results)) _ _ (OwnLock (P.Lock k.place)) (λ _. ended_own _ (L.resulted k s x) x) (λ _. yes_lock none))
-lock_body_own sizes k m (B.Move s v b) = no_lock
+lock_body_own sizes k m b = no_lock
 
 pub lock_letter_own : {C D : Type 0} (sizes : Sizes) (t : Change) (k : Lock) (m : Meaning) (l : Letter C D) → OwnLock (P.Lock k.place) (LL.letter_rule sizes t k m l)
 lock_letter_own sizes t k m l = cond_both (not (eqb l.change.0 t.0)) _ _ (OwnLock (P.Lock k.place)) (λ _. no_lock) (λ _. lock_body_own sizes k m l.body)
@@ -140,17 +132,12 @@ lock_letter_own sizes t k m l = cond_both (not (eqb l.change.0 t.0)) _ _ (OwnLoc
 
 -- who is no honest seat may say anything
 allowed : (f : ℕ) (t : Seats) (l : Log) (h : ℕ) → (Honest f t h → ⊥) → (w : Words) → Allowed f t l (says h w)
-allowed f t l h never enrols = tt
 allowed f t l h never (receipt p) = λ o. absurd (never o)
-allowed f t l h never (order n) = tt
-allowed f t l h never (summons n) = tt
-allowed f t l h never (ready n) = tt
-allowed f t l h never (refuses n) = tt
 allowed f t l h never (propose v x d) = λ o. absurd (never o)
 allowed f t l h never (assent v x d) = λ o. absurd (never o)
 allowed f t l h never (confirm v x d) = λ o. absurd (never o)
-allowed f t l h never (result x) = tt
 allowed f t l h never (move v b) = λ o. absurd (never o)
+allowed f t l h never w = tt
 
 named : {q : Party} (b : Body Certificate Basis) → sender_of b ≡ q → saying b ≡ says (party_number q) (words b)
 named b e = ap (λ (p : Party). says (party_number p) (words b)) e

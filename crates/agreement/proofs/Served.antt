@@ -1,17 +1,12 @@
 -- Every call on a vault keeps what holds of it.
-use Rattle.std.proofs.Common.{◌≡◌, ℕ, zero, suc, ◌+◌, ◌-◌, ◌*◌, ◌<◌, ◌≤◌, Bool, true, false, cond, not, ◌&&◌, ◌||◌, eqb, ltb, leb, ◌⊎◌, List, [], ◌∷◌, ◌++◌, map, length, get_or, set, is_ok, Some, None, Ok, Err, Option, Result as Res, sym, refl, ap, ◌∙◌, subst, inl, inr, arith}
+use Rattle.std.proofs.Common.{◌≡◌, ℕ, ◌+◌, ◌<◌, ◌≤◌, Bool, true, false, cond, ◌&&◌, eqb, leb, List, ◌++◌, map, length, set, is_ok, Ok, sym, refl, ap, subst, arith}
 use Rattle.std.proofs.lemmas.List.{set-get_or}
-use Rattle.std.proofs.lemmas.Bool.{cond_both, both_ways, cases_Bool, cases_eq, eqb-true, eq-eqb, ne_eqb, and_parts, and_left, and_right, leb-true, le-leb, ltb-true, not-true, not-false}
-use Rattle.terms.specs.declared.numbers.Change.{Change}
-use Rattle.terms.specs.declared.numbers.KeyNumber.{KeyNumber}
-use Rattle.terms.specs.declared.numbers.Place.{Place}
-use Rattle.terms.specs.declared.numbers.Seat.{Seat}
+use Rattle.std.proofs.lemmas.Bool.{cond_both, eq-eqb, and_parts, and_right, leb-true, le-leb}
 use Rattle.terms.specs.declared.parties.Party.{Party}
 use Rattle.terms.specs.declared.parties.Party.TheVariants as P
 use Rattle.terms.specs.declared.refusals.Refusal.{Refusal}
 use Rattle.terms.specs.declared.refusals.RuleCause.{RuleCause}
 use Rattle.terms.specs.Numbers.{seat, place}
-use Rattle.terms.specs.Refusals.{no_room}
 use Rattle.letters.specs.Bytes.{written}
 use Rattle.boards.specs.Boards.{Meaning, in_force}
 use Rattle.seals.specs.Scratch.{cleared}
@@ -31,21 +26,20 @@ use Rattle.office.specs.declared.Office.{Office}
 use Rattle.steps.specs.Outputs.{letters_in}
 use Rattle.steps.specs.RangeLaws.{SendsInRange}
 use Rattle.steps.specs.Ranges.{ControllerFits, LockFits}
-use Rattle.steps.specs.Steps.{Sends, sent_in}
+use Rattle.steps.specs.Steps.{sent_in}
 use Rattle.agreement.specs.Seats.{Seats}
-use Rattle.agreement.specs.Calls.{Vault, State, controller_at, lock_at, Request, Call, Went, controller_went, lock_went, office_went}
+use Rattle.agreement.specs.Calls.{Vault, State, controller_at, lock_at, Call, Went, controller_went, lock_went, office_went}
 use Rattle.agreement.specs.Runs.{Given, given_by, given_at, hands_receipt, receipt_at}
 use Rattle.agreement.proofs.Meet.{seats, Honest}
-use Rattle.agreement.proofs.Words.{Log, spoken, lock_party, log_of}
+use Rattle.agreement.proofs.Words.{log_of}
 use Rattle.agreement.proofs.Mirror.{faults}
-use Rattle.agreement.proofs.Steps.{Good}
 use Rattle.agreement.proofs.PerRule.{cond_twice}
 use Rattle.agreement.proofs.Turns.{Keeps}
 use Rattle.agreement.proofs.Locks as F
 use Rattle.agreement.proofs.Locks.{LockInv, Fine}
-use Rattle.agreement.proofs.Senders.{From, Own, no, yes, OwnLock, no_lock, yes_lock}
+use Rattle.agreement.proofs.Senders.{From, Own, yes, OwnLock, yes_lock}
 use Rattle.agreement.proofs.Bridge.{givens, given_by_lem}
-use Rattle.agreement.proofs.World.{World, fewer_served, with_controllers, with_locks, with_office, keeps_good, controller_served, lock_served, office_served}
+use Rattle.agreement.proofs.World.{World, fewer_served, with_controllers, with_locks, keeps_good, controller_served, lock_served, office_served}
 
 own_from : {E V : Type 0} {q : Party} {u : V} {bs : Bodies} → Own q {E = E} {U = V} (served u bs) → From q bs
 own_from (yes k) = k

@@ -1,37 +1,31 @@
 -- Small facts on logs, rows, tests and counts.
-use Rattle.std.proofs.Common.{◌≡◌, ℕ, zero, suc, ◌+◌, ◌<◌, ◌≤◌, Bool, true, false, cond, not, ◌&&◌, ◌||◌, eqb, ltb, leb, ◌⊎◌, List, [], ◌∷◌, ◌++◌, length, get_or, take, set, replicate, is_some as option_is_some, Some, None, Ok, Err, count_by, Option, Result as Res, sym, refl, ap, ◌∙◌, inl, inr, arith}
+use Rattle.std.proofs.Common.{◌≡◌, ℕ, zero, suc, ◌+◌, ◌<◌, ◌≤◌, Bool, true, false, cond, ◌||◌, eqb, List, [], ◌∷◌, ◌++◌, length, get_or, take, is_some as option_is_some, Some, None, count_by, Option, sym, refl, ap, inl, inr, arith}
 use Rattle.std.proofs.lemmas.List.Sums.{sum_by-cons}
 use Rattle.std.proofs.lemmas.List.{take_all}
-use Rattle.std.proofs.lemmas.Bool.{cases_Bool, and_parts, cases_eq, cases_lt, both_ways, eqb-true, ne_eqb, eq-eqb, true≢false}
+use Rattle.std.proofs.lemmas.Bool.{cases_Bool, and_parts, cases_eq, eqb-true, ne_eqb, eq-eqb, true≢false}
 use Rattle.terms.specs.declared.numbers.KeyNumber.{KeyNumber}
 use Rattle.terms.specs.declared.parties.Outcome.{Outcome}
-use Rattle.terms.specs.declared.parties.Outcome.TheVariants.{Keep, Number}
-use Rattle.terms.specs.declared.refusals.RuleCause.{RuleCause}
 use Rattle.letters.specs.declared.sorts.Digest.{Digest}
 use Rattle.letters.specs.declared.statements.Borne.{Borne}
 use Rattle.letters.specs.Inner.{consed, rows_borne}
 use Rattle.ballots.specs.declared.Pair.{Pair}
 use Rattle.ballots.specs.Counts.{votes_for, count_agree}
 use Rattle.ballots.specs.Kinds.{same_outcome, same_pair}
-use Rattle.posting.specs.Replies.{refuse_if, given}
 use Rattle.agreement.specs.Seats.{Seats, count}
 use Rattle.agreement.specs.Runs.{Among, here as first, there as later}
-use Rattle.agreement.proofs.Words.{Words, enrols, receipt, order, summons, ready, refuses, propose, assent, confirm, result, move, Saying, says, Log, Said, here, there, Assented, proposed, assented}
-use Rattle.agreement.proofs.Kept.{said_cases, none_said}
+use Rattle.agreement.proofs.Words.{Words, receipt, propose, assent, confirm, result, move, Saying, says, Log, Said, Assented, proposed, assented}
+use Rattle.agreement.proofs.Kept.{said_cases}
+use Rattle.steps.proofs.Replies.{same_outcome_lem}
 
 -- the kinds of words that a controller's invariants read
 abbrev pub tag : Words → ℕ
-tag enrols = 0
 tag (receipt p) = 5
-tag (order n) = 0
-tag (summons n) = 0
-tag (ready n) = 0
-tag (refuses n) = 0
 tag (propose v x d) = 1
 tag (assent v x d) = 1
 tag (confirm v x d) = 3
 tag (result x) = 6
 tag (move v b) = 4
+tag w = 0
 
 -- s is no saying of h of that kind
 abbrev pub Silent : Saying → ℕ → ℕ → Type 0
@@ -56,52 +50,17 @@ older_voice {v = v} {d} {x} q (assented m) = assented (older q (assent v x d) re
 
 -- ---- rows
 
--- a row with one place put anew
-pub row_cases : {A : Type 0} (xs : List (Option A)) (k i : ℕ) (y a : A) → get_or (set xs k (Some y)) i None ≡ Some a → ((i ≡ k) × (y ≡ a)) ⊎ (get_or xs i None ≡ Some a)
-row_cases [] k i y a e = inr e
-row_cases (x ∷ xs) zero zero y a e = inl (refl, cc)
-row_cases (x ∷ xs) zero (suc i) y a e = inr e
-row_cases (x ∷ xs) (suc k) zero y a e = inr e
-row_cases (x ∷ xs) (suc k) (suc i) y a e = elim (row_cases xs k i y a e) [ inl p ↦ inl (ap suc p.0, p.1) | inr p ↦ inr p ]
-
-pub row_blank : {A : Type 0} (n i : ℕ) (a : A) → get_or (replicate n a) i a ≡ a
-row_blank zero i a = refl
-row_blank (suc n) zero a = refl
-row_blank (suc n) (suc i) a = row_blank n i a
-
-pub none_some : {A : Type 0} {o : Option A} {a : A} → o ≡ None → o ≡ Some a → ⊥
-none_some p q = let z : ◌≡◌ {A = ℕ} 0 1 = cc in omega arith
-
 pub some_of : {A : Type 0} (o : Option A) → option_is_some o ≡ true → (a : A) × (o ≡ Some a)
-some_of None e = let z : ◌≡◌ {A = ℕ} 0 1 = cc in absurd (omega arith)
+some_of None e = cc
 some_of (Some a) e = (a, refl)
-
-pub none_of : {A : Type 0} (o : Option A) → option_is_some o ≡ false → o ≡ None
-none_of None e = refl
-none_of (Some a) e = let z : ◌≡◌ {A = ℕ} 0 1 = cc in absurd (omega arith)
 
 pub is_some : {A : Type 0} {o : Option A} {a : A} → o ≡ Some a → option_is_some o ≡ true
 is_some e = rw e refl
-
-pub some_same : {A : Type 0} {a b : A} → Some a ≡ Some b → a ≡ b
-some_same e = cc
 
 pub some_below : {A : Type 0} (xs : List (Option A)) (k : ℕ) → option_is_some (get_or xs k None) ≡ true → k < length xs
 some_below [] k e = absurd (true≢false (sym e))
 some_below (x ∷ xs) zero e = omega arith
 some_below (x ∷ xs) (suc k) e = omega (arith, some_below xs k e)
-
-pub on_set : {A : Type 0} (xs : List (Option A)) (k i : ℕ) (y : A) → option_is_some (get_or xs i None) ≡ true → option_is_some (get_or (set xs k (Some y)) i None) ≡ true
-on_set [] k i y e = e
-on_set (x ∷ xs) zero zero y e = refl
-on_set (x ∷ xs) zero (suc i) y e = e
-on_set (x ∷ xs) (suc k) zero y e = e
-on_set (x ∷ xs) (suc k) (suc i) y e = on_set xs k i y e
-
-pub on_set_same : {A : Type 0} (xs : List (Option A)) (k : ℕ) (y : A) → k < length xs → option_is_some (get_or (set xs k (Some y)) k None) ≡ true
-on_set_same [] k y h = absurd (omega arith)
-on_set_same (x ∷ xs) zero y h = refl
-on_set_same (x ∷ xs) (suc k) y h = on_set_same xs k y (omega arith)
 
 -- ---- sorts
 
@@ -111,29 +70,12 @@ same_number_lem m n e = λ i. record { 0 = e i }
 pub same_digest : (m n : Digest) → m.0 ≡ n.0 → m ≡ n
 same_digest m n e = λ i. record { 0 = e i }
 
-pub same_outcome_lem : (x y : Outcome) → same_outcome x y ≡ true → x ≡ y
-same_outcome_lem Keep Keep e = refl
-same_outcome_lem Keep (Number n) e = absurd (true≢false (sym e))
-same_outcome_lem (Number m) Keep e = absurd (true≢false (sym e))
-same_outcome_lem (Number m) (Number n) e = ap Number (same_number_lem m n (eqb-true m.0 n.0 e))
-
 pub same_pair_lem : (p q : Pair) → same_pair p q ≡ true → (p.outcome ≡ q.outcome) × (p.digest ≡ q.digest)
 same_pair_lem p q e =
     let a = and_parts (eqb p.digest.0 q.digest.0) (same_outcome p.outcome q.outcome) e in
     (same_outcome_lem p.outcome q.outcome a.1, same_digest p.digest q.digest (eqb-true _ _ a.0))
 
 -- ---- guards that were passed
-
-pub err_ok : {A E : Type 0} {e : E} {a : A} → ◌≡◌ {A = Res A E} (Err e) (Ok a) → ⊥
-err_ok q = let z : ◌≡◌ {A = ℕ} 0 1 = cc in omega arith
-
-pub passed_if : (t : Bool) (c : RuleCause) (rest : Res (Unit {0}) RuleCause) → refuse_if t c rest ≡ Ok tt → (t ≡ false) × (rest ≡ Ok tt)
-passed_if true c rest e = absurd (err_ok e)
-passed_if false c rest e = (refl, e)
-
-pub passed_given : {A : Type 0} (o : Option A) (c : RuleCause) (rest : A → Res (Unit {0}) RuleCause) → given o c rest ≡ Ok tt → (a : A) × (o ≡ Some a) × (rest a ≡ Ok tt)
-passed_given None c rest e = absurd (err_ok e)
-passed_given (Some a) c rest e = (a, refl, e)
 
 -- ---- what a letter bears
 
@@ -171,17 +113,6 @@ count_with a q (suc n) h e = elim (cases_eq n q) [
       rw (eq-eqb n q p, r) (let z : a n ≡ false = rw p e in rw z (omega arith)))
   | inr p ↦ rw (ne_eqb n q p, count_with a q n (omega arith) e) (omega arith)
 ]
-
-bit_le : (b c : Bool) (m n : ℕ) → (b ≡ true → c ≡ true) → m ≤ n → cond b 1 0 + m ≤ cond c 1 0 + n
-bit_le true true m n e h = omega arith
-bit_le true false m n e h = absurd (true≢false (sym (e refl)))
-bit_le false true m n e h = omega arith
-bit_le false false m n e h = omega arith
-
--- a set that holds another has as many members
-pub count_le : (a b : Seats) (n : ℕ) → ((k : ℕ) → k < n → a k ≡ true → b k ≡ true) → count a n ≤ count b n
-count_le a b zero e = omega arith
-count_le a b (suc n) e = bit_le (a n) (b n) (count a n) (count b n) (e n (omega arith)) (count_le a b n (λ k h. e k (omega arith)))
 
 pub count_grows : (a : Seats) (m n : ℕ) → m ≤ n → count a m ≤ count a n
 count_grows a m zero h = let e : m ≡ 0 = omega arith in rw e (omega arith)

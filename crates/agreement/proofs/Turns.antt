@@ -1,52 +1,42 @@
 -- What letters vouch for, and what the records of movers say.
-use Rattle.std.proofs.Common.{◌≡◌, ℕ, zero, suc, ◌+◌, ◌*◌, ◌%◌, ◌^◌, ◌<◌, ◌≤◌, Bool, true, false, cond, not, ◌&&◌, ◌||◌, eqb, ltb, leb, ◌⊎◌, List, [], ◌∷◌, ◌++◌, length, get_or, set, is_some as option_is_some, Some, None, Option, sym, refl, ap, ◌∙◌, inl, inr, arith, length-set}
+use Rattle.std.proofs.Common.{◌≡◌, ℕ, ◌+◌, ◌*◌, ◌^◌, ◌<◌, ◌≤◌, true, false, ◌||◌, eqb, List, ◌++◌, get_or, is_some as option_is_some, Some, None, Option, sym, refl, ◌∙◌, inl, inr, arith}
 use Rattle.terms.specs.declared.numbers.KeyNumber.{KeyNumber}
-use Rattle.terms.specs.declared.numbers.Place.{Place}
-use Rattle.terms.specs.declared.numbers.Seat.{Seat}
 use Rattle.terms.specs.declared.numbers.View.{View}
 use Rattle.terms.specs.declared.parties.Outcome.{Outcome}
-use Rattle.terms.specs.declared.parties.Outcome.TheVariants.{Keep, Number}
-use Rattle.letters.specs.declared.sorts.Answer.{Answer}
 use Rattle.letters.specs.declared.sorts.Answer.TheVariants as A
 use Rattle.letters.specs.declared.sorts.Digest.{Digest}
 use Rattle.letters.specs.declared.sorts.Seal.{Seal}
-use Rattle.letters.specs.declared.sorts.SeatSet.{SeatSet}
 use Rattle.letters.specs.declared.certificates.Basis.{Basis}
 use Rattle.letters.specs.declared.certificates.Certificate.{Certificate}
-use Rattle.letters.specs.declared.certificates.Order.{Order}
 use Rattle.letters.specs.declared.certificates.Vote.{Vote}
 use Rattle.letters.specs.Certificates.{certificate_digest, result_of}
-use Rattle.ballots.specs.declared.Pair.{Pair}
 use Rattle.controllers.specs.declared.controller.Controller.{Controller}
-use Rattle.controllers.specs.declared.controller.MoveRecord.{MoveRecord}
-use Rattle.controllers.specs.declared.controller.Proposal.{Proposal}
-use Rattle.controllers.specs.declared.controller.Round.{Round}
 use Rattle.agreement.specs.Seats.{Seats, count}
 use Rattle.agreement.specs.Calls.{Vault}
-use Rattle.agreement.proofs.Meet.{seats, Few, Honest, Backed, backed_map}
-use Rattle.agreement.proofs.Words.{Words, enrols, receipt, order, summons, ready, refuses, propose, assent, confirm, result, move, Brief, bare, built, brief, Saying, says, Log, Said, here, there, Assented, proposed, assented, lock_party, office}
+use Rattle.agreement.proofs.Meet.{seats, Backed}
+use Rattle.agreement.proofs.Words.{bare, brief, says, Log, Said, proposed, assented, lock_party}
 use lib.Count.{ones}
-use Rattle.std.proofs.lemmas.Bool.{cond_both, both_ways, cases_Bool, eq-eqb, eqb-true, eqb-false, and_parts, leb-true, ltb-true, lt-ltb, or_cases, not-true, true≢false}
+use Rattle.std.proofs.lemmas.Bool.{eqb-true, lt-ltb, or_cases}
 use Rattle.terms.specs.declared.numbers.Change.{Change}
 use Rattle.terms.specs.declared.parties.Party.TheVariants as P
 use Rattle.terms.specs.declared.refusals.RuleCause.{RuleCause}
-use Rattle.terms.specs.declared.sizes.Sizes.{Sizes}
-use Rattle.terms.specs.Numbers.{seat, place, view_of, place_of, seat_of}
-use Rattle.terms.specs.Parties.{party_number, leader_of}
+use Rattle.terms.specs.Numbers.{seat, place}
+use Rattle.terms.specs.Parties.{party_number}
 use Rattle.terms.specs.Sizes.{seat_count}
 use Rattle.letters.specs.declared.statements.Borne.{Borne}
 use Rattle.letters.specs.Bytes.{map_of}
-use Rattle.letters.specs.Inner.{bears, rows_borne, enrol_row, vote_row, vote_borne, certificate_borne, assent_borne, assent_row, basis_borne}
+use Rattle.letters.specs.Inner.{bears, rows_borne, enrol_row, vote_row, certificate_borne, assent_row, basis_borne}
 use Rattle.letters.specs.Sorts.{stands}
-use Rattle.letters.specs.Statements.{order_statement, vote_statement, proposal_statement, assent_statement}
+use Rattle.letters.specs.Statements.{vote_statement, assent_statement}
 use Rattle.posting.specs.Replies.{Reply, refused, served, Bodies}
 use Rattle.controllers.specs.Choice.{stands_in, names, best}
 use Rattle.agreement.specs.Runs.{Among, here as first, there as later}
-use Rattle.agreement.proofs.Words.{words_of, spoken, outcome_told, outcome_in}
-use Rattle.agreement.proofs.Core.{AtMost, Included, Supported, Chosen, Moved, Receipt, Ready, Ordered}
-use Rattle.agreement.proofs.Tools.{none_some, some_of, is_some, in_right, in_rows, count_with, count_same}
-use Rattle.agreement.proofs.Choices.{offering, Best, best_none, best_some, names_some, offer_some, offer_at, certificate_order, certificate_vote, ones_count, map_stands}
-use Rattle.agreement.proofs.Mirror.{faults, lead, Certified, Sound-record, Mirror}
+use Rattle.agreement.proofs.Words.{words_of, spoken, outcome_told}
+use Rattle.agreement.proofs.Core.{AtMost, Included, Supported, Chosen, Moved, Receipt, Ready}
+use Rattle.agreement.proofs.Tools.{some_of, in_right, in_rows, count_with, count_same}
+use Rattle.agreement.proofs.Choices.{best_none, best_some, names_some, offer_some, offer_at, certificate_order, certificate_vote, ones_count}
+use Rattle.steps.proofs.Rows.{map_stands}
+use Rattle.agreement.proofs.Mirror.{faults, lead, Certified, Mirror}
 use Rattle.agreement.proofs.Steps.{Good}
 use Rattle.agreement.proofs.Voices.{lead_below}
 

@@ -1,41 +1,33 @@
 -- The steps by which an honest controller speaks of an outcome.
-use Rattle.std.proofs.Common.{◌≡◌, ℕ, zero, suc, ◌+◌, ◌*◌, ◌%◌, ◌<◌, ◌≤◌, Bool, true, false, cond, not, ◌&&◌, ◌||◌, eqb, ltb, leb, ◌⊎◌, List, [], ◌∷◌, ◌++◌, length, get_or, set, is_some as option_is_some, Some, None, Option, sym, refl, ap, ◌∙◌, inl, inr, mod-lt, arith, length-set}
+use Rattle.std.proofs.Common.{◌≡◌, ℕ, ◌*◌, ◌<◌, ◌≤◌, true, false, ◌||◌, eqb, ◌⊎◌, List, ◌∷◌, get_or, is_some as option_is_some, Some, None, Option, sym, refl, ap, ◌∙◌, inl, inr, mod-lt, arith}
 use Rattle.terms.specs.declared.numbers.KeyNumber.{KeyNumber}
-use Rattle.terms.specs.declared.numbers.Place.{Place}
-use Rattle.terms.specs.declared.numbers.Seat.{Seat}
-use Rattle.terms.specs.declared.numbers.View.{View}
 use Rattle.terms.specs.declared.parties.Outcome.{Outcome}
-use Rattle.terms.specs.declared.parties.Outcome.TheVariants.{Keep, Number}
-use Rattle.letters.specs.declared.sorts.Answer.{Answer}
-use Rattle.letters.specs.declared.sorts.Answer.TheVariants as A
-use Rattle.letters.specs.declared.sorts.Digest.{Digest}
 use Rattle.letters.specs.declared.sorts.Seal.{Seal}
-use Rattle.letters.specs.declared.sorts.SeatSet.{SeatSet}
 use Rattle.letters.specs.declared.certificates.Basis.{Basis}
 use Rattle.letters.specs.declared.certificates.Certificate.{Certificate}
 use Rattle.letters.specs.declared.certificates.Order.{Order}
 use Rattle.letters.specs.declared.certificates.Vote.{Vote}
-use Rattle.letters.specs.Certificates.{certificate_digest, result_of}
+use Rattle.letters.specs.Certificates.{certificate_digest}
 use Rattle.ballots.specs.declared.Pair.{Pair}
 use Rattle.controllers.specs.declared.controller.Controller.{Controller}
-use Rattle.controllers.specs.declared.controller.MoveRecord.{MoveRecord}
 use Rattle.controllers.specs.declared.controller.Proposal.{Proposal}
-use Rattle.controllers.specs.declared.controller.Round.{Round}
-use Rattle.agreement.specs.Seats.{Seats, count}
+use Rattle.agreement.specs.Seats.{Seats}
 use Rattle.agreement.specs.Calls.{Vault}
-use Rattle.agreement.proofs.Meet.{seats, Few, Honest, Backed, backed_map}
-use Rattle.agreement.proofs.Words.{Words, enrols, receipt, order, summons, ready, refuses, propose, assent, confirm, result, move, Brief, bare, built, brief, Saying, says, Log, Said, here, there, Assented, proposed, assented, lock_party, office}
+use Rattle.agreement.proofs.Meet.{seats, Honest}
+use Rattle.agreement.proofs.Words.{Words, propose, assent, confirm, result, brief, says, Log, here, there, Assented, proposed, assented, office}
 use Rattle.std.proofs.lemmas.List.{get_or-set_other}
 use Rattle.std.proofs.lemmas.Bool.{both_ways, eqb-true, or_cases}
-use Rattle.terms.specs.Sizes.{seat_count, quorum_of}
+use Rattle.terms.specs.Sizes.{quorum_of}
 use Rattle.ballots.specs.Counts.{votes_for, count_agree}
 use Rattle.ballots.specs.Kinds.{same_pair}
 use Rattle.controllers.specs.Rules as C
-use Rattle.agreement.proofs.Core.{AtLeast, Supported, Decided, Ground, Rules, Speaks, Confirms, Allowed, Confirmed, Ready, Ordered}
+use Rattle.agreement.proofs.Core.{AtLeast, Supported, Ground, Confirmed, Ordered}
 use Rattle.agreement.proofs.Kept.{assented_more, assented_cases, Voice, by_propose, by_assent, supported_more, said_cases, step}
-use Rattle.agreement.proofs.Tools.{silent_kind, none_some, some_same, row_cases, is_some, count_with, votes_some, agree_count}
-use Rattle.agreement.proofs.Mirror.{faults, lead, Certified, certified_more, Voiced, Heard, Hears, Based, Records, Votes, Results, Mirror, voiced_more, hears_more, based_more, records_more, rolled_more, votes_more, results_more}
+use Rattle.agreement.proofs.Tools.{silent_kind, is_some, count_with, votes_some, agree_count}
+use Rattle.agreement.proofs.Mirror.{faults, lead, Certified, certified_more, Votes, Mirror, voiced_more, hears_more, based_more, records_more, rolled_more, votes_more, results_more}
 use Rattle.agreement.proofs.Steps.{Good}
+use Rattle.std.proofs.lemmas.Option.{same_Some}
+use Rattle.steps.proofs.Rows.{row_cases}
 
 taken : (o : Option Order) (y : Order) → option_is_some (C.or_else o y) ≡ true
 taken None y = refl
@@ -59,6 +51,9 @@ pub lead_below : (R : Vault) (v : ℕ) → lead R v < seats (faults R)
 lead_below R v = mod-lt v (omega arith)
 
 module _ {R : Vault} {t : Seats} {l : Log} (c : Controller) (o : Honest (faults R) t c.seat.0) (g : Good R t l c.seat.0 c) where
+  m : Mirror R t l c.seat.0 c
+  m = g.mirror
+
   -- a proposal that came is held, and assented to
   pub assents_own : (x : Outcome) (k : Certificate) (z own : Seal) → option_is_some c.round.proposal ≡ false → (c.seat.0 ≡ lead R c.view.0 → ⊥)
       → (Honest (faults R) t (lead R c.view.0) → Assented l (lead R c.view.0) c.view.0 x (certificate_digest k).0)
@@ -74,13 +69,13 @@ module _ {R : Vault} {t : Seats} {l : Log} (c : Controller) (o : Honest (faults 
         closed = λ a. taken c.order k.order;
       };
       hears = record {
-        led = λ q e o. rw (← (some_same e)) (assented_more (led o));
+        led = λ q e o. rw (← (same_Some _ _ e)) (assented_more (led o));
         assents = λ i y e. elim (row_cases c.round.assents c.seat.0 i (C.pair x (certificate_digest k)) y e) [
           | inl r ↦ rw r.0 (record { seat = o.seat; held = C.proposal x k (certificate_digest k) z; is = refl; said = λ o. assented (here refl) })
           | inr r ↦ absurd (both_ways _ none (is_some (m.hears.assents i y r).is))
         ];
-        certified = λ q e. rw (← (some_same e)) (certified_more said);
-        digested = λ q e. rw (← (some_same e)) refl;
+        certified = λ q e. rw (← (same_Some _ _ e)) (certified_more said);
+        digested = λ q e. rw (← (same_Some _ _ e)) refl;
         leadless = get_or-set_other c.round.assents c.seat.0 (lead R c.view.0) (Some (C.pair x (certificate_digest k))) None (λ r. other (sym r)) ∙ m.hears.leadless;
         confirms = λ i y e. absurd (both_ways _ none (is_some (m.hears.confirms i y e).is));
       };
@@ -91,9 +86,6 @@ module _ {R : Vault} {t : Seats} {l : Log} (c : Controller) (o : Honest (faults 
       results = results_more (silent_kind (λ e. omega arith)) m.results;
     };
   }
-    where
-      m : Mirror R t l c.seat.0 c
-      m = g.mirror
 
   -- the own proposal is held
   pub proposes_own : (x : Outcome) (k : Certificate) (z : Seal) → option_is_some c.round.proposal ≡ false → c.seat.0 ≡ lead R c.view.0
@@ -109,10 +101,10 @@ module _ {R : Vault} {t : Seats} {l : Log} (c : Controller) (o : Honest (faults 
         closed = λ a. taken c.order k.order;
       };
       hears = record {
-        led = λ q e o. rw (← (some_same e), ← leads) (proposed (here refl));
+        led = λ q e o. rw (← (same_Some _ _ e), ← leads) (proposed (here refl));
         assents = λ i y e. absurd (both_ways _ none (is_some (m.hears.assents i y e).is));
-        certified = λ q e. rw (← (some_same e)) (certified_more said);
-        digested = λ q e. rw (← (some_same e)) refl;
+        certified = λ q e. rw (← (same_Some _ _ e)) (certified_more said);
+        digested = λ q e. rw (← (same_Some _ _ e)) refl;
         leadless = m.hears.leadless;
         confirms = λ i y e. absurd (both_ways _ none (is_some (m.hears.confirms i y e).is));
       };
@@ -123,9 +115,6 @@ module _ {R : Vault} {t : Seats} {l : Log} (c : Controller) (o : Honest (faults 
       results = results_more (silent_kind (λ e. omega arith)) m.results;
     };
   }
-    where
-      m : Mirror R t l c.seat.0 c
-      m = g.mirror
 
   -- the leader and 2f others are a quorum
   pub supports : (p : Proposal) → c.round.proposal ≡ Some p → (x : Pair) → 2 * faults R ≤ count_agree same_pair x c.round.assents → Supported (faults R) t l c.view.0 p.outcome p.digest.0
@@ -139,12 +128,9 @@ module _ {R : Vault} {t : Seats} {l : Log} (c : Controller) (o : Honest (faults 
     );
     each = λ k honest q. elim (or_cases (eqb k (lead R c.view.0)) (votes_for same_pair x (get_or c.round.assents k None)) q) [
       | inl r ↦ (let z = eqb-true k (lead R c.view.0) r in rw z (m.hears.led p e (rw z at honest)))
-      | inr r ↦ (let z = votes_some same_pair x (get_or c.round.assents k None) r in let w = m.hears.assents k z.0 z.1 in let u : w.held ≡ p = some_same (sym w.is ∙ e) in rw (← u) (w.said honest))
+      | inr r ↦ (let z = votes_some same_pair x (get_or c.round.assents k None) r in let w = m.hears.assents k z.0 z.1 in let u : w.held ≡ p = same_Some _ _ (sym w.is ∙ e) in rw (← u) (w.said honest))
     ];
   }
-    where
-      m : Mirror R t l c.seat.0 c
-      m = g.mirror
 
   -- the basis is made, and the own confirm sent
   pub confirms_own : (p : Proposal) → c.round.proposal ≡ Some p → (x : Pair) → x.outcome ≡ p.outcome → x.digest ≡ p.digest → 2 * faults R ≤ count_agree same_pair x c.round.assents
@@ -165,7 +151,7 @@ module _ {R : Vault} {t : Seats} {l : Log} (c : Controller) (o : Honest (faults 
         ];
       };
       based = record {
-        basis = λ y q. rw (← (some_same q)) (record { supported = supported_more (rw (m.hears.digested p e) at sup); early = omega arith; certified = certified_more (m.hears.certified p e) });
+        basis = λ y q. rw (← (same_Some _ _ q)) (record { supported = supported_more (rw (m.hears.digested p e) at sup); early = omega arith; certified = certified_more (m.hears.certified p e) });
         bound = λ {w} a. elim (said_cases a) [
           | inl r ↦ (let z : w ≡ c.view.0 = cc in omega arith)
           | inr r ↦ at_view w c.view.0 c.basis (λ y q. (m.based.basis y q).early) (m.based.bound r)
@@ -178,9 +164,6 @@ module _ {R : Vault} {t : Seats} {l : Log} (c : Controller) (o : Honest (faults 
     };
   })
     where
-      m : Mirror R t l c.seat.0 c
-      m = g.mirror
-
       sup : Supported (faults R) t l c.view.0 p.outcome p.digest.0
       sup = supports p e x full
 
@@ -200,7 +183,7 @@ module _ {R : Vault} {t : Seats} {l : Log} (c : Controller) (o : Honest (faults 
         decided = λ y q. (
           c.view.0,
           p.digest.0,
-          rw (← (some_same q)) (record {
+          rw (← (same_Some _ _ q)) (record {
             set = λ k. votes_for same_pair x (get_or c.round.confirms k None);
             enough = omega (arith, many, agree_count same_pair x c.round.confirms (seats (faults R)) (λ k y q. (m.hears.confirms k y q).seat));
             each = λ k honest r. there (heard k honest r);
@@ -211,12 +194,9 @@ module _ {R : Vault} {t : Seats} {l : Log} (c : Controller) (o : Honest (faults 
     };
   })
     where
-      m : Mirror R t l c.seat.0 c
-      m = g.mirror
-
       heard : (k : ℕ) → Honest (faults R) t k → votes_for same_pair x (get_or c.round.confirms k None) ≡ true → Confirmed l k c.view.0 p.outcome p.digest.0
       heard k honest r =
           let z = votes_some same_pair x (get_or c.round.confirms k None) r in
           let w = m.hears.confirms k z.0 z.1 in
-          let u : w.held ≡ p = some_same (sym w.is ∙ e) in
+          let u : w.held ≡ p = same_Some _ _ (sym w.is ∙ e) in
           rw (← u) (w.said honest)

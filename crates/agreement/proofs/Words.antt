@@ -1,5 +1,5 @@
 -- What parties say, and the log of it, the newest first.
-use Rattle.std.proofs.Common.{◌≡◌, ℕ, ◌+◌, Bool, true, false, cond, List, [], ◌∷◌, ◌++◌, Some, None, Option, refl}
+use Rattle.std.proofs.Common.{◌≡◌, ℕ, ◌+◌, cond, List, [], ◌∷◌, Some, None, Option, refl}
 use Rattle.terms.specs.declared.numbers.Change.{Change}
 use Rattle.terms.specs.declared.numbers.KeyNumber.{KeyNumber}
 use Rattle.terms.specs.declared.numbers.View.{View}
@@ -124,18 +124,13 @@ outcome_told (Number n) = refl
 
 -- a letter says what its statement says
 pub words_told : (t : Change) (b : Body Certificate Basis) → words_of (statement_of t (in_brief b)) ≡ words b
-words_told t (B.Enrol p) = refl
-words_told t (B.Receipt s p) = refl
-words_told t (B.Order n) = refl
-words_told t (B.Summons s n z) = refl
 words_told t (B.Vote p n A.Ready) = refl
-words_told t (B.Vote p n A.Refuse) = refl
 words_told t (B.Proposal s v x c m) = rw (outcome_told x) refl
 words_told t (B.Assent s v x d) = rw (outcome_told x) refl
 words_told t (B.Confirm s v x d) = rw (outcome_told x) refl
 words_told t (B.Result s x) = rw (outcome_told x) refl
-words_told t (B.Move s v None) = refl
 words_told t (B.Move s v (Some b)) = rw (outcome_told b.outcome) refl
+words_told t b = refl
 
 -- ---- the log of what was given out
 

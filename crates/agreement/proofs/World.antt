@@ -1,35 +1,15 @@
 -- What holds of the whole vault after every sound list of calls.
-use Rattle.std.proofs.Common.{◌≡◌, ℕ, zero, suc, ◌+◌, ◌-◌, ◌*◌, ◌<◌, ◌≤◌, Bool, true, false, cond, not, ◌&&◌, ◌||◌, eqb, ltb, leb, ◌⊎◌, List, [], ◌∷◌, ◌++◌, map, length, get_or, set, is_ok, Some, None, Ok, Err, Option, Result as Res, sym, refl, ap, ◌∙◌, subst, inl, inr, arith, length-set}
-use Rattle.std.proofs.lemmas.List.{get_or-set_other, get_or-set_same, set-get_or}
-use Rattle.std.proofs.lemmas.Bool.{cond_both, both_ways, cases_Bool, cases_eq, eqb-true, eq-eqb, ne_eqb, and_parts, and_right, leb-true, le-leb, ltb-true, lt-ltb, not-true, not-false}
-use Rattle.terms.specs.declared.numbers.Change.{Change}
+use Rattle.std.proofs.Common.{◌≡◌, ℕ, ◌+◌, ◌<◌, ◌≤◌, true, false, cond, eqb, List, ◌++◌, length, get_or, set, Option, refl, ap, ◌∙◌, subst, inl, inr, arith, length-set}
+use Rattle.std.proofs.lemmas.List.{get_or-set_other, get_or-set_same}
+use Rattle.std.proofs.lemmas.Bool.{both_ways, cases_Bool, cases_eq, eq-eqb, ne_eqb}
 use Rattle.terms.specs.declared.numbers.KeyNumber.{KeyNumber}
 use Rattle.terms.specs.declared.numbers.Place.{Place}
 use Rattle.terms.specs.declared.numbers.Seat.{Seat}
-use Rattle.terms.specs.declared.parties.Party.{Party}
 use Rattle.terms.specs.declared.parties.Party.TheVariants as P
-use Rattle.terms.specs.declared.refusals.Refusal.{Refusal}
-use Rattle.terms.specs.declared.refusals.RuleCause.{RuleCause}
-use Rattle.terms.specs.declared.sizes.Sizes.{Sizes}
 use Rattle.terms.specs.Numbers.{is_change, seat, place}
-use Rattle.terms.specs.Parties.{party_number}
-use Rattle.terms.specs.Refusals.{no_room}
-use Rattle.terms.specs.Sizes.{seat_count, quorum_of}
-use Rattle.letters.specs.declared.certificates.Basis.{Basis}
-use Rattle.letters.specs.declared.certificates.Certificate.{Certificate}
-use Rattle.letters.specs.declared.bodies.Body.{Body}
-use Rattle.letters.specs.declared.sorts.Seal.{Seal}
-use Rattle.letters.specs.Bytes.{written}
-use Rattle.letters.specs.Ranges.{is_word, body_fits}
-use Rattle.boards.specs.Boards.{Meaning, in_force, how_many}
-use Rattle.seals.specs.Scratch.{cleared}
-use Rattle.posting.specs.declared.few.AtMostTwo.{AtMostTwo}
+use Rattle.boards.specs.Boards.{Meaning, in_force}
 use Rattle.posting.specs.declared.few.AtMostTwo.TheVariants.{Nothing, One, Two}
-use Rattle.posting.specs.declared.few.Seals.{Seals}
-use Rattle.posting.specs.Calls as U
-use Rattle.posting.specs.Calls.{has_room, enough, pointed, called, finished}
-use Rattle.posting.specs.Posting.{letters_of, lengths_of, bytes_of, fits, needed}
-use Rattle.posting.specs.Replies.{Reply, refused, served, Bodies, after}
+use Rattle.posting.specs.Replies.{served, Bodies}
 use Rattle.controllers.specs.declared.controller.Controller.{Controller}
 use Rattle.controllers.specs.Letters.{fresh_controller}
 use Rattle.locks.specs.declared.lock.Lock.{Lock}
@@ -37,26 +17,22 @@ use Rattle.locks.specs.Fresh.{fresh_lock}
 use Rattle.locks.specs.Rules as L
 use Rattle.locks.specs.Rules.{replied, deed_done, board_after}
 use Rattle.office.specs.declared.Office.{Office}
-use Rattle.steps.specs.Outputs.{letters_in}
 use Rattle.steps.specs.RangeLaws.{SendsInRange}
 use Rattle.steps.specs.Ranges.{ControllerFits, LockFits}
-use Rattle.steps.specs.Steps.{Sends, sent_in}
 use Rattle.agreement.specs.Seats.{Seats, count}
-use Rattle.agreement.specs.Calls.{Vault, State, controller_at, lock_at, Call, Went, controller_went, lock_went, office_went}
-use Rattle.agreement.specs.Runs.{Given, given_by, given_at, Among, here as first, there as later}
+use Rattle.agreement.specs.Calls.{Vault, State, controller_at, lock_at}
+use Rattle.agreement.specs.Runs.{Given, Among, here as first, there as later}
 use Rattle.agreement.proofs.Meet.{seats, Honest}
 use Rattle.agreement.proofs.Words.{Log, spoken, lock_party, log_of}
 use Rattle.agreement.proofs.Core.{Rules}
-use Rattle.agreement.proofs.Kept as K
 use Rattle.agreement.proofs.Mirror.{faults, Mirror}
 use Rattle.agreement.proofs.Steps.{Good}
 use Rattle.agreement.proofs.Turns as T
 use Rattle.agreement.proofs.Turns.{Keeps}
 use Rattle.agreement.proofs.Doors.{Frame}
-use Rattle.agreement.proofs.Locks as F
-use Rattle.agreement.proofs.Locks.{LockInv, Fine}
-use Rattle.agreement.proofs.Senders.{From, none, one, two, Own, no, yes, OwnLock, no_lock, yes_lock, rules_spoken, mirror_spoken, lock_spoken}
-use Rattle.agreement.proofs.Bridge.{given_for, givens, log_spoken, given_by_lem, from_append, Uttered}
+use Rattle.agreement.proofs.Locks.{LockInv, receipts_of}
+use Rattle.agreement.proofs.Senders.{From, rules_spoken, mirror_spoken, lock_spoken}
+use Rattle.agreement.proofs.Bridge.{givens, log_spoken, from_append, Uttered}
 
 pub record World (R : Vault) (t : Seats) (from s : State) (gs : List Given) (n : ℕ → ℕ) : Type 0 where
   pub numbered : is_change R.change.0 ≡ true
@@ -72,23 +48,13 @@ pub record World (R : Vault) (t : Seats) (from s : State) (gs : List Given) (n :
   pub locks : (p : ℕ) → p < R.sizes.locks → t (lock_party p) ≡ false → LockInv R t (log_of gs) p (in_force from.board (place p)) (lock_at s p) (in_force s.board (place p)) (n p)
 
 fewer : {R : Vault} {t : Seats} {l : Log} {p : ℕ} {was : Option KeyNumber} {k : Lock} {force : Option KeyNumber} {n m : ℕ} → m ≤ n → LockInv R t l p was k force n → LockInv R t l p was k force m
-fewer h i = record { slots = i.slots; receipts = i.receipts; results = i.results; counted = omega (arith, i.counted); enrolled = i.enrolled; unsaid = i.unsaid; kept = i.kept; changed = i.changed; stays = i.stays }
+fewer {R} {k = k} {m = m} h i = let counted : m ≤ count (receipts_of k) (seats (faults R)) = omega (arith, i.counted) in assumption
 
 -- where fewer receipts were served, it holds as well
 pub fewer_served : {R : Vault} {t : Seats} {from s : State} {gs : List Given} {n m : ℕ → ℕ} → ((p : ℕ) → m p ≤ n p) → World R t from s gs n → World R t from s gs m
-fewer_served h W = record {
-  numbered = W.numbered;
-  rules = W.rules;
-  told = W.told;
-  seats_there = W.seats_there;
-  locks_there = W.locks_there;
-  seat_fits_holds = W.seat_fits_holds;
-  lock_fits = W.lock_fits;
-  seated = W.seated;
-  placed = W.placed;
-  mirrors = W.mirrors;
-  locks = λ p lt o. fewer (h p) (W.locks p lt o);
-}
+fewer_served {R} {t} {from} {s} {gs} {m = m} h W =
+    let locks : (p : ℕ) → p < R.sizes.locks → t (lock_party p) ≡ false → LockInv R t (log_of gs) p (in_force from.board (place p)) (lock_at s p) (in_force s.board (place p)) (m p) = λ p lt o. fewer (h p) (W.locks p lt o) in
+    assumption
 
 uttered_givens : (R : Vault) (bs : Bodies) → SendsInRange R.sizes R.change bs → (g : Given) → Among g (givens R.change bs) → Uttered R g
 uttered_givens R Nothing fit g m = elim m [ ]

@@ -1,5 +1,5 @@
 -- Lists of calls on a vault that was set up, what parties give out in them, and what letters bear.
-use Rattle.std.specs.Prelude.{◌≡◌, ℕ, ◌+◌, ◌<◌, ◌≤◌, Bool, true, false, cond, ◌&&◌, List, [], ◌∷◌, ◌++◌, length, take, drop, is_ok, Some, None, Ok, Err, Option, Result as Res, ◌==◌, ◌≢◌}
+use Rattle.std.specs.Prelude.{◌≡◌, ℕ, ◌+◌, ◌<◌, ◌≤◌, Bool, true, false, cond, ◌&&◌, List, [], ◌∷◌, ◌++◌, length, take, drop, is_ok, None, Ok, Err, Result as Res, ◌==◌, ◌≢◌}
 use Rattle.terms.specs.declared.parties.Party.{Party}
 use Rattle.terms.specs.declared.refusals.Refusal.{Refusal}
 use Rattle.terms.specs.declared.sizes.Sizes.{Sizes}
@@ -19,7 +19,7 @@ use Rattle.reading.specs.Parts.{Span, Spans}
 use Rattle.kept.specs.Kept.{kept_body}
 use Rattle.roundtrip.specs.Laws.{Bytes}
 use Rattle.letters.specs.Senders.{sender_of}
-use Rattle.seals.specs.Opening.{Relation, accepted, sender_borne}
+use Rattle.seals.specs.Opening.{accepted, sender_borne}
 use Rattle.boards.specs.Boards.{how_many, staged_at}
 use Rattle.posting.specs.declared.few.AtMostTwo.{AtMostTwo}
 use Rattle.posting.specs.declared.few.AtMostTwo.TheVariants.{Nothing, One, Two}

@@ -1,8 +1,9 @@
 -- Each small step keeps the groups within range that it touches.
-use Rattle.std.proofs.Common.{◌≡◌, ℕ, ◌+◌, ◌*◌, ◌^◌, ◌<◌, ◌≤◌, Bool, true, false, cond, ◌&&◌, List, [], ◌∷◌, length, get_or, set, replicate, is_some, Some, None, fold, Option, sym, refl, ap, ◌∙◌, subst, inl, inr, arith, pow_pos}
+use Rattle.std.proofs.Common.{◌≡◌, ℕ, ◌+◌, ◌*◌, ◌^◌, ◌<◌, ◌≤◌, Bool, true, false, cond, ◌&&◌, ltb, List, [], ◌∷◌, length, get_or, set, replicate, is_some, Some, None, fold, Option, sym, refl, ap, ◌∙◌, subst, inl, inr, arith, pow_pos}
 use lib.Count.{ones}
 use Rattle.std.proofs.lemmas.Nat.{mod_below}
 use Rattle.std.proofs.lemmas.List.{length-set, get_or-set_other}
+use Rattle.std.proofs.lemmas.Option.{same_Some}
 use Rattle.std.proofs.lemmas.Bool.{and_parts, and_from, eq-eqb, lt-ltb, ltb-true, not_from_false, not_from_true}
 use Rattle.terms.specs.declared.numbers.Change.{Change}
 use Rattle.terms.specs.declared.numbers.KeyNumber.{KeyNumber}
@@ -34,7 +35,7 @@ use Rattle.controllers.specs.Rules.{ordered_number, or_else, pair_of, with_propo
 use Rattle.roundtrip.proofs.Certificates.{fits_parts, parts_fit}
 use Rattle.roundtrip.proofs.Bases.{grounded, ground_fits}
 use Rattle.steps.specs.Ranges.{order_fits, PapersFit, ProposalFits, RoundFits, OwnBasisFits, RecordFits, RecordsFit}
-use Rattle.steps.proofs.Replies.{none_some, some_same}
+use Rattle.steps.proofs.Replies.{none_some}
 use Rattle.steps.proofs.Rows.{ones_none, map_set, ones_set, same_set, stands_at, none_filled, seals_set, votes_set, within_registered, within_voted, row_cases, blank_row, blank_map}
 
 -- ---- certificates
@@ -92,42 +93,17 @@ new_papers sizes = record {
 module _ {sizes : Sizes} {registered : List (Option Seal)} {order : Option Order} {votes : List (Option Vote)} (g : PapersFit sizes registered order votes) where
   -- a place is registered
   pub registers : (p : ℕ) (z : Seal) → p < sizes.locks → is_word z.0 ≡ true → PapersFit sizes (set registered p (Some z)) order votes
-  registers p z l w = record {
-    registered_rows = length-set registered p (Some z) ∙ g.registered_rows;
-    registered_places = map_set registered p sizes.locks z g.registered_places l;
-    registered_seals = seals_set registered p z g.registered_seals w;
-    ordered = g.ordered;
-    vote_rows = g.vote_rows;
-    within = within_registered registered votes p z g.within;
-    unvoted = g.unvoted;
-    vote_seals_holds = g.vote_seals_holds;
-  }
+  registers p z l w = assumption (length-set registered p (Some z) ∙ g.registered_rows, map_set registered p sizes.locks z g.registered_places l, seals_set registered p z g.registered_seals w, within_registered registered votes p z g.within)
 
   -- a registered place votes under an order with a number
   pub votes_on : (p : ℕ) (v : Vote) (m : KeyNumber) → ordered_number order ≡ Some m → is_some (get_or registered p None) ≡ true → is_word v.seal.0 ≡ true → PapersFit sizes registered order (set votes p (Some v))
-  votes_on p v m e r w = record {
-    registered_rows = g.registered_rows;
-    registered_places = g.registered_places;
-    registered_seals = g.registered_seals;
-    ordered = g.ordered;
-    vote_rows = length-set votes p (Some v) ∙ g.vote_rows;
-    within = within_voted registered votes p v r g.within;
-    unvoted = ap (λ n. cancel_unvoted n (set votes p (Some v))) e;
-    vote_seals_holds = ap rows_fit (votes_set votes p v) ∙ seals_set (vote_seals votes) p v.seal g.vote_seals_holds w;
-  }
+  votes_on p v m e r w =
+      let unvoted : cancel_unvoted (ordered_number order) (set votes p (Some v)) ≡ true = ap (λ n. cancel_unvoted n (set votes p (Some v))) e in
+      assumption (length-set votes p (Some v) ∙ g.vote_rows, within_voted registered votes p v r g.within, unvoted, ap rows_fit (votes_set votes p v) ∙ seals_set (vote_seals votes) p v.seal g.vote_seals_holds w)
 
   -- an order is held, if none was
   pub orders_first : (o : Order) → order_fits (Some o) ≡ true → PapersFit sizes registered (or_else order o) votes
-  orders_first o f = record {
-    registered_rows = g.registered_rows;
-    registered_places = g.registered_places;
-    registered_seals = g.registered_seals;
-    ordered = fits order g.ordered;
-    vote_rows = g.vote_rows;
-    within = g.within;
-    unvoted = still order g.unvoted;
-    vote_seals_holds = g.vote_seals_holds;
-  }
+  orders_first o f = assumption (fits order g.ordered, still order g.unvoted)
     where
       fits : (h : Option Order) → order_fits h ≡ true → order_fits (or_else h o) ≡ true
       fits None e = f
@@ -178,7 +154,7 @@ module _ {sizes : Sizes} {t : Change} {v : View} {r : Round} (g : RoundFits size
   -- a proposal is held where none was
   pub holds_one : (p : Proposal) → r.proposal ≡ None → ProposalFits sizes p → RoundFits sizes t v (with_proposal r p)
   holds_one p e f = record {
-    proposal = λ q i. subst (ProposalFits sizes) (some_same i) f;
+    proposal = λ q i. subst (ProposalFits sizes) (same_Some _ _ i) f;
     assents = g.assents;
     assent_rows = g.assent_rows;
     same_seats = g.same_seats;
@@ -200,7 +176,7 @@ module _ {sizes : Sizes} {t : Change} {v : View} {r : Round} (g : RoundFits size
     };
     assent_rows = length-set r.assents s.0 (Some x) ∙ g.assent_rows;
     same_seats = same_set r.assents r.seals s.0 x z (g.assent_rows ∙ sym g.assents.rows) g.same_seats;
-    agreeing = λ o i k y j. elim (row_cases r.assents s.0 k x y j) [ inl c ↦ sym c.1 ∙ q ∙ ap pair_of (some_same (sym e ∙ i)) | inr c ↦ g.agreeing o i k y c ];
+    agreeing = λ o i k y j. elim (row_cases r.assents s.0 k x y j) [ inl c ↦ sym c.1 ∙ q ∙ ap pair_of (same_Some _ _ (sym e ∙ i)) | inr c ↦ g.agreeing o i k y c ];
     none = λ i. absurd (none_some i e);
     confirm_rows = g.confirm_rows;
   }
@@ -213,15 +189,7 @@ module _ {sizes : Sizes} {t : Change} {v : View} {r : Round} (g : RoundFits size
 
   -- a confirm is recorded
   pub confirms_one : (s : Seat) (x : Pair) → RoundFits sizes t v (confirmed r s x)
-  confirms_one s x = record {
-    proposal = g.proposal;
-    assents = g.assents;
-    assent_rows = g.assent_rows;
-    same_seats = g.same_seats;
-    agreeing = g.agreeing;
-    none = g.none;
-    confirm_rows = length-set r.confirms s.0 (Some x) ∙ g.confirm_rows;
-  }
+  confirms_one s x = assumption (length-set r.confirms s.0 (Some x) ∙ g.confirm_rows)
 
 -- ---- bases
 
@@ -252,17 +220,8 @@ pub grounds_later : (sizes : Sizes) (t : Change) (v w : View) (b : Option Basis)
 grounds_later sizes t v w None f l = refl
 grounds_later sizes t v w (Some b) f l =
     let g = grounded sizes t v b f in
-    ground_fits sizes t w b (record {
-      below = lt-ltb _ _ (omega (arith, ltb-true _ _ g.below));
-      long = g.long;
-      low = g.low;
-      many = g.many;
-      others = g.others;
-      outcome_fit = g.outcome_fit;
-      word = g.word;
-      fit = g.fit;
-      certificate_fit = g.certificate_fit;
-    })
+    let below : ltb b.view.0 w.0 ≡ true = lt-ltb _ _ (omega (arith, ltb-true _ _ g.below)) in
+    ground_fits sizes t w b assumption
 
 pub basis_later : (sizes : Sizes) (t : Change) (v w : View) (b : Option Basis) → OwnBasisFits sizes t v b → v.0 ≤ w.0 → OwnBasisFits sizes t w b
 basis_later sizes t v w b g l = record { grounds = grounds_later sizes t (view_of (v.0 + 1)) (view_of (w.0 + 1)) b g.grounds (omega arith); true_result = g.true_result }

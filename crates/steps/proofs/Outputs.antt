@@ -1,7 +1,7 @@
 -- What a call leaves in the output buffer is read back.
-use Rattle.std.proofs.Common.{◌≡◌, ℕ, ◌≤◌, Bool, true, false, cond, leb, List, [], ◌∷◌, ◌++◌, map, length, take, drop, Ok, Result, sym, refl, ap, ◌∙◌, ap₂, inl, inr, append_assoc, arith}
+use Rattle.std.proofs.Common.{◌≡◌, ℕ, ◌≤◌, true, leb, List, [], ◌∷◌, ◌++◌, map, length, take, drop, Ok, refl, ap, ◌∙◌, ap₂, inl, inr, append_assoc, arith}
 use lib.Seq.{take-append_seam, drop-append_seam}
-use Rattle.std.proofs.lemmas.Bool.{and_parts, leb-true, le-leb}
+use Rattle.std.proofs.lemmas.Bool.{and_parts, cond-true, cond_both, leb-true, le-leb}
 use Rattle.terms.specs.declared.numbers.Change.{Change}
 use Rattle.terms.specs.declared.refusals.Refusal.{Refusal}
 use Rattle.terms.specs.declared.refusals.RuleCause.{RuleCause}
@@ -23,23 +23,11 @@ use Rattle.steps.specs.RangeLaws.{ReadBack}
 use Rattle.steps.specs.Outputs.{letter_in, letters_in, OutputIsReadBack, RoomSuffices}
 use Rattle.steps.proofs.Within.{letters_sent_are_read_back, little_is_sent}
 
-same_lengths : {A : Type 0} {x y : A} → ◌≡◌ {A = Result A Refusal} (Ok x) (Ok y) → x ≡ y
-same_lengths e = cc
-
 first_word : (zs : Seals) → are_words zs ≡ true → is_word zs.first.0 ≡ true
 first_word zs w = (and_parts (is_word zs.first.0) (is_word zs.second.0) w).0
 
 second_word : (zs : Seals) → are_words zs ≡ true → is_word zs.second.0 ≡ true
 second_word zs w = (and_parts (is_word zs.first.0) (is_word zs.second.0) w).1
-
-one_or_other : {U : Type 0} (P : Went U → Type 0) (b : Bool) {x y : Went U} → P x → P y → P (cond b x y)
-one_or_other P true p q = p
-one_or_other P false p q = q
-
--- the first, where the test passed
-first_of : {U : Type 0} (b : Bool) (x y : Went U) → b ≡ true → (cond b x y).unit ≡ x.unit
-first_of true x y e = refl
-first_of false x y e = absurd (grind (arith, e))
 
 module _ (sizes : Sizes) (t : Change) (zs : Seals) (one : is_word zs.first.0 ≡ true) (two : is_word zs.second.0 ≡ true) where
   -- the letters stand at the start of the buffer
@@ -61,16 +49,16 @@ module _ (sizes : Sizes) (t : Change) (zs : Seals) (one : is_word zs.first.0 ≡
     finished_read : (r : Reply Refusal U) (lengths : AtMostTwo ℕ) → ReadBack sizes t (sent_in r) → (finished t u out scratch zs r).answer ≡ Ok lengths → letters_in sizes lengths (finished t u out scratch zs r).out ≡ map Ok (letters_of t (sent_in r) zs)
     finished_read (refused c) lengths k e = absurd (grind (arith, e))
     finished_read (served v bs) lengths k e =
-        one_or_other (λ w. w.answer ≡ Ok lengths → letters_in sizes lengths w.out ≡ map Ok (letters_of t bs zs)) (fits t bs out)
-        (λ q. ap (λ n. letters_in sizes n (written (bytes_of t bs zs) out)) (sym (same_lengths q)) ∙ buffer_read bs out k)
-        (λ q. absurd (grind (arith, q)))
+        cond_both (fits t bs out) _ _ (λ (w : Went U). w.answer ≡ Ok lengths → letters_in sizes lengths w.out ≡ map Ok (letters_of t bs zs))
+        (λ _ q. let n : lengths ≡ lengths_of t bs zs = cc in ap (λ n. letters_in sizes n (written (bytes_of t bs zs) out)) n ∙ buffer_read bs out k)
+        (λ _ q. absurd (grind (arith, q)))
         e
 
     called_read : (r : Reply Refusal U) (lengths : AtMostTwo ℕ) → ReadBack sizes t (sent_in r) → (called t u out scratch zs r).answer ≡ Ok lengths → letters_in sizes lengths (called t u out scratch zs r).out ≡ map Ok (letters_of t (sent_in r) zs)
     called_read r lengths k e =
-        one_or_other (λ w. w.answer ≡ Ok lengths → letters_in sizes lengths w.out ≡ map Ok (letters_of t (sent_in r) zs)) (has_room out scratch)
-        (λ q. finished_read r lengths k q)
-        (λ q. absurd (grind (arith, q)))
+        cond_both (has_room out scratch) _ _ (λ (w : Went U). w.answer ≡ Ok lengths → letters_in sizes lengths w.out ≡ map Ok (letters_of t (sent_in r) zs))
+        (λ _ q. finished_read r lengths k q)
+        (λ _ q. absurd (grind (arith, q)))
         e
 
 pointed_read : {U : Type 0} (sizes : Sizes) (t : Change) (sender : ℕ) (r : Reply RuleCause U) → ReadBack sizes t (sent_in r) → ReadBack sizes t (sent_in (pointed sender r))
@@ -91,13 +79,13 @@ pointed_room t sender (refused c) k = k
 pointed_room t sender (served u bs) k = k
 
 called_unit : {U : Type 0} (t : Change) (u : U) (zs : Seals) (out scratch : List ℕ) (r : Reply Refusal U) → needed t (sent_in r) ≤ 253 → has_room out scratch ≡ true → (called t u out scratch zs r).unit ≡ after u r
-called_unit {U} t u zs out scratch r k h = first_of (has_room out scratch) _ _ h ∙ go r k
+called_unit {U} t u zs out scratch r k h = ap (λ (w : Went U). w.unit) (cond-true (has_room out scratch) _ _ h) ∙ go r k
   where
     go : (r : Reply Refusal U) → needed t (sent_in r) ≤ 253 → (finished t u out scratch zs r).unit ≡ after u r
     go (refused c) k = refl
     go (served v bs) k =
         let l = leb-true _ _ (and_parts (leb 256 (length out)) (leb 24 (length scratch)) h).0 in
-        first_of (fits t bs out) _ _ (le-leb _ _ (omega (arith, k, l)))
+        ap (λ (w : Went U). w.unit) (cond-true (fits t bs out) _ _ (le-leb _ _ (omega (arith, k, l))))
 
 pub room_suffices : RoomSuffices
 room_suffices = record {

@@ -54,9 +54,6 @@ is_none (Some a) e = absurd (grind (arith, e))
 pub none_some : {A : Type 0} {x : Option A} {a : A} → x ≡ None → x ≡ Some a → ⊥
 none_some e f = let g = sym e ∙ f in grind (arith, g)
 
-pub some_same : {A : Type 0} {a b : A} → ◌≡◌ {A = Option A} (Some a) (Some b) → a ≡ b
-some_same e = cc
-
 -- tests of equality that passed
 pub same_outcome_lem : (x y : Outcome) → same_outcome x y ≡ true → x ≡ y
 same_outcome_lem Keep Keep e = refl

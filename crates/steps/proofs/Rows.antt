@@ -1,23 +1,31 @@
 -- Rows with one more filled: their map, their count, and their seals.
-use Rattle.std.proofs.Common.{◌≡◌, ℕ, zero, suc, ◌+◌, ◌*◌, ◌/◌, ◌%◌, ◌^◌, ◌<◌, Bool, true, false, cond, ◌&&◌, eqb, ◌⊎◌, List, [], ◌∷◌, length, get_or, set, replicate, is_some, Some, None, Option, sym, refl, ap, ◌∙◌, ap₂, inl, inr, pow-suc, arith}
-use lib.Count.{ones, ones_in, ones_step}
-use Rattle.std.proofs.lemmas.Nat.{shr-shr, shr_le}
-use Rattle.std.proofs.lemmas.List.Sums.{sum_by-cons}
-use Rattle.std.proofs.lemmas.Bool.{and_parts, and_from, eq-eqb, ne_eqb}
+use Rattle.std.proofs.Common.{◌≡◌, ℕ, zero, suc, ◌+◌, ◌*◌, ◌^◌, ◌<◌, Bool, true, false, cond, ◌&&◌, eqb, ◌⊎◌, List, [], ◌∷◌, length, get_or, map, set, replicate, is_some, Some, count_by, None, Option, sym, refl, ap, ◌∙◌, ap₂, inl, inr, pow-suc, arith}
+use lib.Count.{ones, ones_in}
+use lib.ListN.{get_or-map}
+use Rattle.std.specs.Simd.Lanes.{mask_l}
+use Rattle.std.proofs.lemmas.Option.{same_Some}
+use Rattle.std.proofs.lemmas.Simd.{bit_mask_l, ones-mask_l}
+use Rattle.std.proofs.lemmas.List.Sums.{sum_by-cons, sum_by-set}
+use Rattle.std.proofs.lemmas.Bool.{and_parts, and_from}
 use Rattle.letters.specs.declared.sorts.Seal.{Seal}
 use Rattle.letters.specs.declared.certificates.Vote.{Vote}
 use Rattle.letters.specs.Bytes.{map_of}
 use Rattle.letters.specs.Certificates.{vote_seal, vote_seals}
 use Rattle.letters.specs.Ranges.{is_word, rows_fit, votes_within}
 use Rattle.letters.specs.Sorts.{stands}
-use Rattle.ballots.specs.Counts.{count_agree}
-use Rattle.roundtrip.proofs.Rows.{half, odd}
-use Rattle.steps.proofs.Replies.{some_same}
+use Rattle.ballots.specs.Counts.{votes_for, count_agree}
+use Rattle.steps.proofs.Replies.{is_none}
 
 -- ---- the map
 
-ones_bit : (x : Bool) (m : ℕ) → ones (cond x 1 0 + 2 * m) ≡ cond x 1 0 + ones m
-ones_bit x m = ones_step (cond x 1 0 + 2 * m) ∙ simp (odd x m, half x m)
+-- the map is the mask of the tests
+masked : {A : Type 0} (test : A → Bool) (xs : List A) → map_of test xs ≡ mask_l (map test xs)
+unfolding map_of
+masked test [] = refl
+masked test (x ∷ xs) = ap (λ m. cond (test x) 1 0 + 2 * m) (masked test xs)
+
+ones_filled : {A : Type 0} (rs : List (Option A)) → ones (map_of is_some rs) ≡ count_by is_some rs
+ones_filled rs = ap ones (masked is_some rs) ∙ ones-mask_l is_some rs
 
 pub ones_none : ones 0 ≡ 0
 unfolding ones ones_in
@@ -47,11 +55,9 @@ map_set (r ∷ rs) (suc k) (suc n) z h l = low_bit (is_some r) _ n (map_set rs k
 
 -- one more
 pub ones_set : {A : Type 0} (rs : List (Option A)) (k : ℕ) (z : A) → k < length rs → is_some (get_or rs k None) ≡ false → ones (map_of is_some (set rs k (Some z))) ≡ ones (map_of is_some rs) + 1
-unfolding map_of
-ones_set [] k z l e = absurd (omega arith)
-ones_set (None ∷ rs) zero z l e = omega (arith, ones_bit true (map_of is_some rs), ones_bit false (map_of is_some rs))
-ones_set (Some r ∷ rs) zero z l e = absurd (grind (arith, e))
-ones_set (r ∷ rs) (suc k) z l e = omega (arith, ones_bit (is_some r) (map_of is_some (set rs k (Some z))), ones_bit (is_some r) (map_of is_some rs), ones_set rs k z (omega arith) e)
+ones_set rs k z l e =
+    let free : ◌≡◌ {A = ℕ} (cond (is_some (get_or rs k None)) 1 0) 0 = ap (λ b. cond b 1 0) e in
+    omega (arith, free, ones_filled rs, ones_filled (set rs k (Some z)), sum_by-set (λ r. cond (is_some r) 1 0) rs k (Some z) None l)
 
 -- rows that are filled at the same places stay so
 pub same_set : {A B : Type 0} (rs : List (Option A)) (qs : List (Option B)) (k : ℕ) (y : A) (z : B) → length rs ≡ length qs → map_of is_some rs ≡ map_of is_some qs → map_of is_some (set rs k (Some y)) ≡ map_of is_some (set qs k (Some z))
@@ -64,25 +70,21 @@ same_set (r ∷ rs) (q ∷ qs) (suc k) y z l e =
     let p = same_bits (is_some r) (is_some q) (map_of is_some rs) (map_of is_some qs) e in
     ap₂ (λ (a m : ℕ). a + 2 * m) p.0 (same_set rs qs k y z (omega arith) p.1)
 
--- a bit of the map says whether its row is filled
-halved : (m j : ℕ) → m / 2 ^ suc j ≡ m / 2 / 2 ^ j
-halved m j = ap (λ k. m / 2 ^ k) (omega arith) ∙ sym (shr-shr m 1 j)
+-- a bit of the map says whether its row passes
+pub map_stands : {A : Type 0} (test : A → Bool) (d : A) → test d ≡ false → (xs : List A) (j : ℕ) → stands (map_of test xs) j ≡ test (get_or xs j d)
+map_stands test d e xs j = ap (λ m. stands m j) (masked test xs) ∙ ap (λ n. eqb n 1) (bit_mask_l (map test xs) j ∙ ap (λ b. cond b 1 0) (ap (get_or (map test xs) j) (sym e) ∙ get_or-map test xs j d)) ∙ bit (test (get_or xs j d))
+  where
+    bit : (b : Bool) → eqb (cond b 1 0) 1 ≡ b
+    bit true = refl
+    bit false = refl
 
 pub stands_at : {A : Type 0} (rs : List (Option A)) (j : ℕ) → stands (map_of is_some rs) j ≡ is_some (get_or rs j None)
-unfolding map_of
-stands_at [] j = ne_eqb _ _ (λ e. omega (arith, e, shr_le 0 j))
-stands_at (None ∷ rs) zero = ne_eqb _ _ (λ e. omega (arith, e))
-stands_at (Some r ∷ rs) zero = eq-eqb _ _ (omega arith)
-stands_at (r ∷ rs) (suc j) = ap (λ n. eqb (n % 2) 1) (halved (cond (is_some r) 1 0 + 2 * map_of is_some rs) j ∙ ap (λ n. n / 2 ^ j) (half (is_some r) (map_of is_some rs))) ∙ stands_at rs j
+stands_at rs j = map_stands is_some None refl rs j
 
 -- none is filled
 pub none_filled : {A : Type 0} (rs : List (Option A)) (j : ℕ) → map_of is_some rs ≡ 0 → get_or rs j None ≡ None
 unfolding map_of
-none_filled [] j e = refl
-none_filled (None ∷ rs) zero e = refl
-none_filled (Some r ∷ rs) zero e = absurd (omega arith)
-none_filled (None ∷ rs) (suc j) e = none_filled rs j (omega arith)
-none_filled (Some r ∷ rs) (suc j) e = absurd (omega arith)
+none_filled {A} rs j e = is_none _ (sym (stands_at rs j) ∙ ap (λ m. stands m j) e ∙ stands_at {A = A} [] j)
 
 -- ---- seals
 
@@ -125,20 +127,30 @@ within_voted (e ∷ es) (x ∷ vs) (suc k) v r f = let p = and_parts (cond (is_s
 -- ---- ballots that all agree
 
 pub all_agree : {V : Type 0} (agree : V → V → Bool) (v : V) → agree v v ≡ true → (xs : List (Option V)) → ((k : ℕ) (x : V) → get_or xs k None ≡ Some x → x ≡ v) → count_agree agree v xs ≡ ones (map_of is_some xs)
-unfolding map_of
-all_agree agree v s [] h = sym ones_none
-all_agree agree v s (None ∷ xs) h = sum_by-cons _ None xs ∙ omega (arith, ones_bit false (map_of is_some xs), all_agree agree v s xs (λ k x e. h (suc k) x e))
-all_agree agree v s (Some x ∷ xs) h =
-    let one : ◌≡◌ {A = ℕ} (cond (agree x v) 1 0) 1 = ap (λ y. cond (agree y v) 1 0) (h 0 x refl) ∙ ap (λ b. cond b 1 0) s in
-    sum_by-cons _ (Some x) xs ∙ omega (arith, one, ones_bit true (map_of is_some xs), all_agree agree v s xs (λ k x e. h (suc k) x e))
+all_agree {V} agree v s xs h = go xs h ∙ sym (ones_filled xs)
+  where
+    go : (xs : List (Option V)) → ((k : ℕ) (x : V) → get_or xs k None ≡ Some x → x ≡ v) → count_agree agree v xs ≡ count_by is_some xs
+    go [] h = refl
+    go (None ∷ xs) h = omega (arith, sum_by-cons (λ o. cond (votes_for agree v o) 1 0) None xs, sum_by-cons (λ o. cond (is_some o) 1 0) None xs, go xs (λ k x e. h (suc k) x e))
+    go (Some x ∷ xs) h =
+        let one : ◌≡◌ {A = ℕ} (cond (agree x v) 1 0) 1 = ap (λ y. cond (agree y v) 1 0) (h 0 x refl) ∙ ap (λ b. cond b 1 0) s in
+        omega (arith, one, sum_by-cons (λ o. cond (votes_for agree v o) 1 0) (Some x) xs, sum_by-cons (λ o. cond (is_some o) 1 0) (Some x) xs, go xs (λ k x e. h (suc k) x e))
 
 -- what stands in a row after a write
 pub row_cases : {A : Type 0} (xs : List (Option A)) (k j : ℕ) (y a : A) → get_or (set xs k (Some y)) j None ≡ Some a → ((j ≡ k) × (y ≡ a)) ⊎ (get_or xs j None ≡ Some a)
 row_cases [] k j y a e = inr e
-row_cases (x ∷ xs) zero zero y a e = inl (refl, some_same e)
+row_cases (x ∷ xs) zero zero y a e = inl (refl, same_Some _ _ e)
 row_cases (x ∷ xs) zero (suc j) y a e = inr e
 row_cases (x ∷ xs) (suc k) zero y a e = inr e
 row_cases (x ∷ xs) (suc k) (suc j) y a e = elim (row_cases xs k j y a e) [ inl p ↦ inl (ap suc p.0, p.1) | inr p ↦ inr p ]
+
+-- what is filled stays filled
+pub row_stays : {A : Type 0} (xs : List (Option A)) (i j : ℕ) (y : A) → is_some (get_or xs j None) ≡ true → is_some (get_or (set xs i (Some y)) j None) ≡ true
+row_stays [] i j y h = h
+row_stays (x ∷ xs) zero zero y h = refl
+row_stays (x ∷ xs) zero (suc j) y h = h
+row_stays (x ∷ xs) (suc i) zero y h = h
+row_stays (x ∷ xs) (suc i) (suc j) y h = row_stays xs i j y h
 
 pub blank_row : {A : Type 0} (n j : ℕ) → get_or {A = Option A} (replicate n None) j None ≡ None
 blank_row zero j = refl

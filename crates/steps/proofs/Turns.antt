@@ -1,6 +1,7 @@
 -- One lemma a rule: a controller within range stays so, and what it sends is within range.
 use Rattle.std.proofs.Common.{◌≡◌, ℕ, ◌+◌, ◌*◌, ◌%◌, ◌^◌, ◌<◌, ◌≤◌, Bool, true, false, cond, not, ◌&&◌, ◌||◌, eqb, ltb, leb, List, get_or, set, is_some, Some, None, Ok, Err, Option, Result as Res, sym, refl, ap, ◌∙◌, subst, arith}
 use lib.Count.{ones}
+use Rattle.std.proofs.lemmas.Option.{same_Some}
 use Rattle.std.proofs.lemmas.Bool.{and_parts, and_from, or_parts, cond_both, eq-eqb, ne_eqb, eqb-true, eqb-false, lt-ltb, ltb-true, ltb-false, leb-true, leb-false, not-false, not_from_false}
 use Rattle.terms.specs.declared.numbers.Change.{Change}
 use Rattle.terms.specs.declared.numbers.KeyNumber.{KeyNumber}
@@ -40,11 +41,11 @@ use Rattle.controllers.specs.declared.controller.Draft.{Draft}
 use Rattle.controllers.specs.declared.controller.MoveRecord.{MoveRecord}
 use Rattle.controllers.specs.declared.controller.Proposal.{Proposal}
 use Rattle.controllers.specs.Choice.{names, best, picked}
-use Rattle.controllers.specs.Rules.{Reply, with_order, with_round, with_records, with_result, may_enrol, enrol_rule, same_number, may_order, order, order_rule, ordered_number, may_vote, vote_rule, choice, pair_of, or_else, hold, assented, confirmed, leads, may_hold, proposal, held, proposal_rule, concludes, may_assent, confirmed_own, confirm_body, result_body, confirming, assent_counted, assent_rule, may_confirm, confirm_counted, confirm_rule, move_record, enter_view, names_from, false_basis, may_move, record_count, move_rule, may_ring, ring_rule, movers, own_draft, draft_from, draft_of, drafted, may_propose, proposing, propose_rule}
+use Rattle.controllers.specs.Rules.{Reply, with_registered, with_order, with_votes, with_round, with_records, with_result, may_enrol, enrol_rule, same_number, may_order, order, order_rule, ordered_number, may_vote, vote_rule, choice, pair_of, or_else, hold, assented, confirmed, leads, may_hold, proposal, held, proposal_rule, concludes, may_assent, confirmed_own, confirm_body, result_body, confirming, assent_counted, assent_rule, may_confirm, confirm_counted, confirm_rule, move_record, enter_view, names_from, false_basis, may_move, record_count, move_rule, may_ring, ring_rule, movers, own_draft, draft_from, draft_of, drafted, may_propose, proposing, propose_rule}
 use Rattle.roundtrip.proofs.Bases.{grounded}
 use Rattle.roundtrip.proofs.Certificates.{parts_fit}
 use Rattle.steps.specs.Ranges.{order_fits, PapersFit, ProposalFits, RoundFits, RecordsFit, ControllerFits}
-use Rattle.steps.proofs.Replies.{Serves, no, yes, passes, either, not_refused, was_given, is_none, none_some, some_same, same_outcome_lem, is_eq}
+use Rattle.steps.proofs.Replies.{Serves, no, yes, passes, either, not_refused, was_given, is_none, none_some, same_outcome_lem, is_eq}
 use Rattle.steps.proofs.Rows.{ones_none, none_filled, all_agree}
 use Rattle.steps.proofs.Movers.{picks_quorum, best_recorded}
 use Rattle.steps.proofs.Groups.{digest_word_lem, order_of, outcome_number_lem, outcome_same, registers, votes_on, orders_first, own_fits, new_round, holds_one, assents_one, confirms_one, makes_basis, grounds_later, basis_later, records_one}
@@ -65,7 +66,7 @@ Turn sizes t r = Serves (Keeps sizes t) r
 
 -- ---- small facts
 
-order_none : (o : Option Order) (n : Option KeyNumber) → may_order o n ≡ Ok tt → o ≡ None
+pub order_none : (o : Option Order) (n : Option KeyNumber) → may_order o n ≡ Ok tt → o ≡ None
 order_none None n e = refl
 order_none (Some o) n e = let p = (not_refused (same_number o.number n) R.Repeated (Err R.Differs) tt e).1 in absurd (grind (arith, p))
 
@@ -75,22 +76,17 @@ pair_same x = and_from _ _ (eq-eqb _ _ refl) (outcome_same x.outcome)
 module _ (sizes : Sizes) (t : Change) (u : Controller) (g : ControllerFits sizes t u) where
   -- ---- enrol, order, vote
 
+  papers_fit : {rs : _} {o : _} {vs : _} → PapersFit sizes rs o vs → ControllerFits sizes t (with_votes (with_order (with_registered u rs) o) vs)
+  papers_fit f = assumption
+
   pub enrol_turn : (p : Place) (z : Seal) → place_fits sizes p ≡ true → is_word z.0 ≡ true → Turn sizes t (enrol_rule u p z)
   enrol_turn p z l w = passes (may_enrol u p) _ (λ _. yes (record {
-    fits = record { seat = g.seat; view = g.view; papers = registers g.papers p.0 z (ltb-true _ _ l) w; round = g.round; basis = g.basis; records = g.records; result = g.result };
+    fits = papers_fit (registers g.papers p.0 z (ltb-true _ _ l) w);
     sent = and_from _ _ g.seat l;
   }))
 
   ordered : (o : Order) → u.order ≡ None → order_fits (Some o) ≡ true → ControllerFits sizes t (with_order u (Some o))
-  ordered o e f = record {
-    seat = g.seat;
-    view = g.view;
-    papers = subst (λ h. PapersFit sizes u.registered (or_else h o) u.votes) e (orders_first g.papers o f);
-    round = g.round;
-    basis = g.basis;
-    records = g.records;
-    result = g.result;
-  }
+  ordered o e f = papers_fit (subst (λ h. PapersFit sizes u.registered (or_else h o) u.votes) e (orders_first g.papers o f))
 
   pub order_turn : (n : Option KeyNumber) (z : Seal) → number_fits n ≡ true → is_word z.0 ≡ true → Turn sizes t (order_rule u n z)
   order_turn None z f w = passes (may_order u.order None) _ (λ e. yes (record { fits = ordered (order None z) (order_none u.order None e) (and_from _ _ f w); sent = tt }))
@@ -101,7 +97,7 @@ module _ (sizes : Sizes) (t : Change) (u : Controller) (g : ControllerFits sizes
       let o = was_given (ordered_number u.order) R.OutOfTurn _ e in
       let r = not_refused (not (is_some (get_or u.registered p.0 None))) R.OutOfTurn _ tt o.then in
       yes (record {
-        fits = record { seat = g.seat; view = g.view; papers = votes_on g.papers p.0 (record { answer = a; seal = z }) o.value o.is (not-false _ r.0) w; round = g.round; basis = g.basis; records = g.records; result = g.result };
+        fits = papers_fit (votes_on g.papers p.0 (record { answer = a; seal = z }) o.value o.is (not-false _ r.0) w);
         sent = tt;
       }))
 
@@ -132,28 +128,20 @@ module _ (sizes : Sizes) (t : Change) (u : Controller) (g : ControllerFits sizes
   -- ---- holding a proposal
 
   pub hold_fits : (p : Proposal) → u.round.proposal ≡ None → ProposalFits sizes p → ControllerFits sizes t (hold u p)
-  hold_fits p e f = record {
-    seat = g.seat;
-    view = g.view;
-    papers = orders_first g.papers p.certificate.order (order_of sizes p.certificate f.certificate);
-    round = holds_one g.round p e f;
-    basis = g.basis;
-    records = g.records;
-    result = g.result;
-  }
+  hold_fits p e f = assumption (orders_first g.papers p.certificate.order (order_of sizes p.certificate f.certificate), holds_one g.round p e f)
 
   -- a result that is taken
   pub concluded_fits : (x : Pair) → number_fits (outcome_number x.outcome) ≡ true → ControllerFits sizes t (with_result u (Some x.outcome))
-  concluded_fits x f = record { seat = g.seat; view = g.view; papers = g.papers; round = g.round; basis = g.basis; records = g.records; result = f }
+  concluded_fits x f = assumption
 
   pub result_sent : (x : Pair) → number_fits (outcome_number x.outcome) ≡ true → body_fits sizes t (result_body u x) ≡ true
   result_sent x f = and_from _ _ g.seat f
 
   pub round_fits : {r : _} → RoundFits sizes t u.view r → ControllerFits sizes t (with_round u r)
-  round_fits f = record { seat = g.seat; view = g.view; papers = g.papers; round = f; basis = g.basis; records = g.records; result = g.result }
+  round_fits f = assumption
 
   pub records_fit : (rs : List (Option MoveRecord)) → RecordsFit sizes t rs → ControllerFits sizes t (with_records u rs)
-  records_fit rs f = record { seat = g.seat; view = g.view; papers = g.papers; round = g.round; basis = g.basis; records = f; result = g.result }
+  records_fit rs f = assumption
 
 -- ---- confirm
 
@@ -227,15 +215,7 @@ confirming_turn sizes t w g x h f d full = subst (λ o. Turn sizes t (confirming
         omega (arith, same, full, count_assents sizes t w x g.round h, g.round.assents.few)
 
     g2 : ControllerFits sizes t (confirmed_own w p x)
-    g2 = record {
-      seat = g.seat;
-      view = g.view;
-      papers = g.papers;
-      round = confirms_one g.round w.seat x;
-      basis = makes_basis sizes t w p g.round h.is many;
-      records = g.records;
-      result = g.result;
-    }
+    g2 = assumption (confirms_one g.round w.seat x, makes_basis sizes t w p g.round h.is many)
 
     sent : body_fits sizes t (confirm_body w x) ≡ true
     sent = and_from _ _ g.seat (and_from _ _ g.view (and_from _ _ f d))
@@ -334,13 +314,13 @@ draft_fits sizes t u d g k e = from (choice u (movers sizes u)) refl e
   where
     own : (o : Option Order) → u.order ≡ o → own_draft u (movers sizes u) o ≡ Some d → DraftFits sizes u.view d
     own None q e = absurd (none_some refl e)
-    own (Some o) q e = subst (DraftFits sizes u.view) (some_same e) (record { certificate = own_fits g.papers o q; outcome = refl; movers = k })
+    own (Some o) q e = subst (DraftFits sizes u.view) (same_Some _ _ e) (record { certificate = own_fits g.papers o q; outcome = refl; movers = k })
 
     from : (c : Option Basis) → choice u (movers sizes u) ≡ c → draft_from u (movers sizes u) c ≡ Some d → DraftFits sizes u.view d
-    from (Some b) q e = let f = chosen_fits sizes t u (movers sizes u) b g.records q in subst (DraftFits sizes u.view) (some_same e) (record { certificate = f.0; outcome = f.1; movers = k })
+    from (Some b) q e = let f = chosen_fits sizes t u (movers sizes u) b g.records q in subst (DraftFits sizes u.view) (same_Some _ _ e) (record { certificate = f.0; outcome = f.1; movers = k })
     from None q e = own u.order refl e
 
-drafted_some : (o : Option Draft) (d : Draft) → drafted o ≡ Ok d → o ≡ Some d
+pub drafted_some : (o : Option Draft) (d : Draft) → drafted o ≡ Ok d → o ≡ Some d
 drafted_some None d e = absurd (grind (arith, e))
 drafted_some (Some c) d e = let q : c ≡ d = cc in ap Some q
 

@@ -1,6 +1,7 @@
 -- What a controller sends, and when.
 use Rattle.std.proofs.Common.{◌≡◌, ◌+◌, ◌*◌, ◌<◌, true, not, ◌&&◌, eqb, ltb, leb, ◌⊎◌, List, [], ◌∷◌, ◌++◌, set, is_some, Some, None, Ok, Err, Option, Result as Res, sym, refl, ap, subst, ap₂, inl, inr, arith}
 use Rattle.std.proofs.lemmas.List.{get_or-set_same}
+use Rattle.std.proofs.lemmas.Option.{none-some, same_Some}
 use Rattle.std.proofs.lemmas.Bool.{and_parts, not-false, not-true, cond_both, ltb-true}
 use Rattle.terms.specs.declared.numbers.Change.{Change}
 use Rattle.terms.specs.declared.numbers.KeyNumber.{KeyNumber}
@@ -31,24 +32,21 @@ use Rattle.controllers.specs.declared.controller.Controller.{Controller}
 use Rattle.controllers.specs.declared.controller.Draft.{Draft}
 use Rattle.controllers.specs.declared.controller.Proposal.{Proposal}
 use Rattle.controllers.specs.Letters.{body_rule}
-use Rattle.controllers.specs.Rules.{Reply, may_enrol, enrol_rule, may_order, order, order_rule, may_vote, vote_rule, pair, pair_of, proposal, leads, may_hold, held, proposal_rule, confirmed_here, concludes, may_assent, with_round, assented, basis_from, confirmed_own, confirming, assent_counted, assent_rule, confirmed, may_confirm, confirm_rule, enter_view, entered, may_move, record_count, move_record, with_records, move_rule, may_ring, ring_rule, may_propose, proposing, propose_rule}
+use Rattle.controllers.specs.Rules.{Reply, may_enrol, enrol_rule, may_order, order_rule, may_vote, vote_rule, pair, pair_of, proposal, leads, may_hold, proposal_rule, confirmed_here, concludes, may_assent, with_round, assented, basis_from, confirmed_own, confirming, assent_counted, assent_rule, confirmed, may_confirm, confirm_rule, enter_view, may_move, record_count, move_record, with_records, move_rule, may_ring, ring_rule, may_propose, proposing, propose_rule}
 use Rattle.steps.specs.Steps.{Sends, ControllerStep, to_controller, rings, proposes, controller_reply, controller_next, controller_sends}
 use Rattle.steps.specs.Laws.{Voice, voice, voice_of, BasisFrom, SpokenOnce, ConfirmedNow, ResultTaken, MovedOn, ReceiptGiven, OneVoiceAView, ConfirmOnlyInThePresentView, ResultSentWhenTaken, MoveOnlyToALaterView, ReceiptOnlyBeforeAnOrder}
 use Rattle.steps.specs.Voices.{listed, voices_in}
-use Rattle.steps.proofs.Replies.{Serves, no, yes, at_last, passes, either, not_refused, was_given, is_none, none_some, some_same, same_pair_lem}
+use Rattle.steps.proofs.Replies.{Serves, no, yes, at_last, passes, either, not_refused, was_given, is_none, same_pair_lem}
 
 -- what a letter that is sent says of the controller before and after
 abbrev Said : Controller → Controller → Body Certificate Basis → Type 0
-Said u v (B.Enrol p) = Unit {0}
 Said u v (B.Receipt s p) = ReceiptGiven u v s p
-Said u v (B.Order n) = Unit {0}
-Said u v (B.Summons s n z) = Unit {0}
-Said u v (B.Vote p n a) = Unit {0}
 Said u v (B.Proposal s w x c m) = SpokenOnce u v (voice s w x (certificate_digest c))
 Said u v (B.Assent s w x d) = SpokenOnce u v (voice s w x d)
 Said u v (B.Confirm s w x d) = ConfirmedNow u v s w x d
 Said u v (B.Result s x) = ResultTaken u v s x
 Said u v (B.Move s w b) = MovedOn u v s w b
+Said u v b = Unit {0}
 
 abbrev AllSaid : Controller → Controller → Bodies → Type 0
 AllSaid u v Nothing = Unit {0}
@@ -74,7 +72,7 @@ enrol_says u p z = passes (may_enrol u p) _ (λ e.
 
 order_says : (u : Controller) (n : Option KeyNumber) (z : Seal) → Speaks u (order_rule u n z)
 order_says u None z = passes (may_order u.order None) _ (λ _. yes tt)
-order_says u (Some n) z = passes (may_order u.order (Some n)) _ (λ _. yes tt)
+order_says u n z = passes (may_order u.order n) _ (λ _. yes tt)
 
 vote_says : (u : Controller) (p : Place) (n : KeyNumber) (a : Answer) (z : Seal) → Speaks u (vote_rule u p n a z)
 vote_says u p n a z = passes (may_vote u p n) _ (λ _. yes tt)
@@ -190,15 +188,13 @@ propose_says sizes t u own = go (may_propose sizes t u) refl
 
 body_says : (sizes : Sizes) (t : Change) (u : Controller) (b : Body Certificate Basis) (z own : Seal) → Speaks u (body_rule sizes t u b z own)
 body_says sizes t u (B.Enrol p) z own = enrol_says u p z
-body_says sizes t u (B.Receipt s p) z own = no
 body_says sizes t u (B.Order n) z own = order_says u n z
-body_says sizes t u (B.Summons s n o) z own = no
 body_says sizes t u (B.Vote p n a) z own = vote_says u p n a z
 body_says sizes t u (B.Proposal s v x c m) z own = proposal_says sizes t u v x c m z own
 body_says sizes t u (B.Assent s v x d) z own = assent_says sizes u s v (pair x d) z
 body_says sizes t u (B.Confirm s v x d) z own = confirm_says sizes u s v (pair x d)
-body_says sizes t u (B.Result s x) z own = no
 body_says sizes t u (B.Move s v b) z own = move_says sizes u s v b
+body_says sizes t u b z own = no
 
 step_says : (sizes : Sizes) (t : Change) (u : Controller) (s : ControllerStep) (own : Seal) → Speaks u (controller_reply sizes t u s own)
 unfolding controller_reply
@@ -219,16 +215,9 @@ said : (sizes : Sizes) (t : Change) (u : Controller) (s : ControllerStep) (own :
 said sizes t u s own b i = one_said u (controller_next sizes t u s own) (controller_sends sizes t u s own) b (all_said sizes t u s own) i
 
 voiced : (u v : Controller) (b : Body Certificate Basis) (k : Voice) → voice_of b ≡ Some k → Said u v b → SpokenOnce u v k
-voiced u v (B.Enrol p) k e a = absurd (none_some refl e)
-voiced u v (B.Receipt s p) k e a = absurd (none_some refl e)
-voiced u v (B.Order n) k e a = absurd (none_some refl e)
-voiced u v (B.Summons s n z) k e a = absurd (none_some refl e)
-voiced u v (B.Vote p n c) k e a = absurd (none_some refl e)
-voiced u v (B.Proposal s w x c m) k e a = rw (← (some_same e)) a
-voiced u v (B.Assent s w x d) k e a = rw (← (some_same e)) a
-voiced u v (B.Confirm s w x d) k e a = absurd (none_some refl e)
-voiced u v (B.Result s x) k e a = absurd (none_some refl e)
-voiced u v (B.Move s w b) k e a = absurd (none_some refl e)
+voiced u v (B.Proposal s w x c m) k e a = rw (← (same_Some _ _ e)) a
+voiced u v (B.Assent s w x d) k e a = rw (← (same_Some _ _ e)) a
+voiced u v b k e a = absurd (none-some k e)
 
 pub one_voice_a_view : OneVoiceAView
 one_voice_a_view sizes t u s own b k i e = voiced u (controller_next sizes t u s own) b k e (said sizes t u s own b i)

@@ -70,9 +70,7 @@ new_locks_are_in_range sizes p f = record { place = f; receipt_rows = refl; resu
 
 body_turn : (sizes : Sizes) (t : Change) (u : Controller) → ControllerFits sizes t u → (b : Body Certificate Basis) (z own : Seal) → body_fits sizes t b ≡ true → is_word z.0 ≡ true → is_word own.0 ≡ true → Turn sizes t (body_rule sizes t u b z own)
 body_turn sizes t u g (B.Enrol p) z own f wz wo = enrol_turn sizes t u g p z f wz
-body_turn sizes t u g (B.Receipt s p) z own f wz wo = no
 body_turn sizes t u g (B.Order n) z own f wz wo = order_turn sizes t u g n z f wz
-body_turn sizes t u g (B.Summons s n o) z own f wz wo = no
 body_turn sizes t u g (B.Vote p n a) z own f wz wo = vote_turn sizes t u g p n a z wz
 body_turn sizes t u g (B.Proposal s v x c m) z own f wz wo =
     let f1 = and_parts (is_byte v.0) _ f in
@@ -91,12 +89,12 @@ body_turn sizes t u g (B.Confirm s v x d) z own f wz wo =
     let f2 = and_parts (is_byte v.0) _ f1.1 in
     let f3 = and_parts (number_fits (outcome_number x)) _ f2.1 in
     confirm_turn sizes t u g s v (pair x d) f3.0
-body_turn sizes t u g (B.Result s x) z own f wz wo = no
 body_turn sizes t u g (B.Move s v b) z own f wz wo =
     let f1 = and_parts (seat_fits sizes s) _ f in
     let f2 = and_parts (is_byte v.0) _ f1.1 in
     let f3 = and_parts (not (eqb v.0 0)) _ f2.1 in
     move_turn sizes t u g s v b f1.0 f2.0 (not-true _ f3.0) f3.1
+body_turn sizes t u g b z own f wz wo = no
 
 -- what a letter of this change within range says of its body
 body_fits_lem : (sizes : Sizes) (t : Change) (l : Letter Certificate Basis) → letter_fits sizes l ≡ true → not (eqb l.change.0 t.0) ≡ false → (is_word l.seal.0 ≡ true) × (body_fits sizes t l.body ≡ true)
@@ -166,19 +164,13 @@ ended_fits sizes t k x = cond_both (leb (sizes.faults + 1) (count_agree same_out
     ends (Number n) = tt
 
 lock_body : (sizes : Sizes) (t : Change) (k : Lock) (m : Meaning) (b : Body Certificate Basis) → LockFits sizes k → body_fits sizes t b ≡ true → LockSends sizes t (LockLetters.body_rule sizes k m b)
-lock_body sizes t k m (B.Enrol p) g f = tt
 lock_body sizes t k m (B.Receipt s p) g f = lock_passes sizes t (L.may_receipt k s p) _ tt
-lock_body sizes t k m (B.Order n) g f = tt
 lock_body sizes t k m (B.Summons s n z) g f =
     let f1 = and_parts (seat_fits sizes s) _ f in
     let f2 = and_parts (is_key n.0) _ f1.1 in
     lock_passes sizes t (L.may_summon k) _ (summoned_fits sizes t k (stages m k.place n) n g f2.0)
-lock_body sizes t k m (B.Vote p n a) g f = tt
-lock_body sizes t k m (B.Proposal s v x c ms) g f = tt
-lock_body sizes t k m (B.Assent s v x d) g f = tt
-lock_body sizes t k m (B.Confirm s v x d) g f = tt
 lock_body sizes t k m (B.Result s x) g f = lock_passes sizes t (L.may_result k m s x) _ (ended_fits sizes t (L.resulted k s x) x)
-lock_body sizes t k m (B.Move s v b) g f = tt
+lock_body sizes t k m b g f = tt
 
 lock_step : (sizes : Sizes) (t : Change) (k : Lock) (m : Meaning) (s : LockStep) → lock_step_fits sizes s ≡ true → LockFits sizes k → LockSends sizes t (lock_reply sizes t k m s)
 unfolding lock_reply

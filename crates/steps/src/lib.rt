@@ -7,6 +7,7 @@ ghost use Rattle.steps.specs.RangeLaws.{NewControllersAreInRange, NewLocksAreInR
 ghost use Rattle.steps.specs.Outputs.{OutputIsReadBack, LittleIsSent, RoomSuffices};
 
 // A controller keeps its seat.
+#[tactic(auto, using(crate::proofs::Controllers::seat_stays))]
 pub fn seat_stays() -> bool
     ensures { SeatStays }
 {
@@ -14,6 +15,7 @@ pub fn seat_stays() -> bool
 }
 
 // A view never falls.
+#[tactic(auto, using(crate::proofs::Controllers::view_never_falls))]
 pub fn view_never_falls() -> bool
     ensures { ViewNeverFalls }
 {
@@ -21,6 +23,7 @@ pub fn view_never_falls() -> bool
 }
 
 // A result, once held, stays.
+#[tactic(auto, using(crate::proofs::Controllers::result_stays))]
 pub fn result_stays() -> bool
     ensures { ResultStays }
 {
@@ -28,6 +31,7 @@ pub fn result_stays() -> bool
 }
 
 // An order, once held, stays.
+#[tactic(auto, using(crate::proofs::Controllers::order_stays))]
 pub fn order_stays() -> bool
     ensures { OrderStays }
 {
@@ -35,6 +39,7 @@ pub fn order_stays() -> bool
 }
 
 // A place, once registered, stays registered.
+#[tactic(auto, using(crate::proofs::Controllers::registered_places_stay))]
 pub fn registered_places_stay() -> bool
     ensures { RegisteredPlacesStay }
 {
@@ -42,6 +47,7 @@ pub fn registered_places_stay() -> bool
 }
 
 // Once an order is held, no place is registered any more.
+#[tactic(auto, using(crate::proofs::Controllers::registered_places_never_grow))]
 pub fn registered_places_never_grow() -> bool
     ensures { RegisteredPlacesNeverGrow }
 {
@@ -49,6 +55,7 @@ pub fn registered_places_never_grow() -> bool
 }
 
 // A basis is never lost, and its view never falls.
+#[tactic(auto, using(crate::proofs::Controllers::basis_never_falls))]
 pub fn basis_never_falls() -> bool
     ensures { BasisNeverFalls }
 {
@@ -56,6 +63,7 @@ pub fn basis_never_falls() -> bool
 }
 
 // A held proposal stays while the view stays the same.
+#[tactic(auto, using(crate::proofs::Controllers::proposal_stays))]
 pub fn proposal_stays_in_its_view() -> bool
     ensures { ProposalStaysInItsView }
 {
@@ -77,6 +85,7 @@ pub fn at_most_one_voice_a_view() -> bool
 }
 
 // A confirm is sent only in the present view, and of the held proposal.
+#[tactic(auto, using(crate::proofs::Voices::confirm_only_in_the_present_view))]
 pub fn confirm_only_in_the_present_view() -> bool
     ensures { ConfirmOnlyInThePresentView }
 {
@@ -84,6 +93,7 @@ pub fn confirm_only_in_the_present_view() -> bool
 }
 
 // A result is sent only when it is taken.
+#[tactic(auto, using(crate::proofs::Voices::result_sent_when_taken))]
 pub fn result_sent_when_taken() -> bool
     ensures { ResultSentWhenTaken }
 {
@@ -91,6 +101,7 @@ pub fn result_sent_when_taken() -> bool
 }
 
 // A move is sent only to a later view, with the basis that is held.
+#[tactic(auto, using(crate::proofs::Voices::move_only_to_a_later_view))]
 pub fn move_only_to_a_later_view() -> bool
     ensures { MoveOnlyToALaterView }
 {
@@ -98,6 +109,7 @@ pub fn move_only_to_a_later_view() -> bool
 }
 
 // A receipt is sent only before an order is held, for a place that is registered then.
+#[tactic(auto, using(crate::proofs::Voices::receipt_only_before_an_order))]
 pub fn receipt_only_before_an_order() -> bool
     ensures { ReceiptOnlyBeforeAnOrder }
 {
@@ -105,6 +117,7 @@ pub fn receipt_only_before_an_order() -> bool
 }
 
 // A lock keeps its place.
+#[tactic(auto, using(crate::proofs::Locks::place_stays))]
 pub fn place_stays() -> bool
     ensures { PlaceStays }
 {
@@ -112,6 +125,7 @@ pub fn place_stays() -> bool
 }
 
 // The standing of a lock never goes back.
+#[tactic(auto, using(crate::proofs::Locks::standing_never_falls))]
 pub fn standing_never_falls() -> bool
     ensures { StandingNeverFalls }
 {
@@ -126,6 +140,7 @@ pub fn ended_lock_stays() -> bool
 }
 
 // A lock touches only its own place of the board.
+#[tactic(auto, using(crate::proofs::Locks::other_places_stay))]
 pub fn other_places_stay() -> bool
     ensures { OtherPlacesStay }
 {
@@ -133,6 +148,7 @@ pub fn other_places_stay() -> bool
 }
 
 // The office orders once.
+#[tactic(auto, using(crate::proofs::Locks::office_orders_once))]
 pub fn office_orders_once() -> bool
     ensures { OfficeOrdersOnce }
 {
@@ -147,6 +163,7 @@ pub fn new_controllers_are_in_range() -> bool
 }
 
 // A new lock is within range.
+#[tactic(auto, using(crate::proofs::Within::new_locks_are_in_range))]
 pub fn new_locks_are_in_range() -> bool
     ensures { NewLocksAreInRange }
 {
@@ -161,6 +178,7 @@ pub fn controllers_stay_in_range() -> bool
 }
 
 // What a controller within range sends is within range.
+#[tactic(auto, using(crate::proofs::Within::controllers_send_in_range))]
 pub fn controllers_send_in_range() -> bool
     ensures { ControllersSendInRange }
 {
@@ -168,6 +186,7 @@ pub fn controllers_send_in_range() -> bool
 }
 
 // The own basis of a controller within range is of the present view or an earlier one.
+#[tactic(auto, using(crate::proofs::Within::own_basis_is_not_later))]
 pub fn own_basis_is_not_later() -> bool
     ensures { OwnBasisIsNotLater }
 {
@@ -182,6 +201,7 @@ pub fn locks_stay_in_range() -> bool
 }
 
 // What a lock within range sends is within range.
+#[tactic(auto, using(crate::proofs::Within::locks_send_in_range))]
 pub fn locks_send_in_range() -> bool
     ensures { LocksSendInRange }
 {
@@ -189,6 +209,7 @@ pub fn locks_send_in_range() -> bool
 }
 
 // What the office sends is within range.
+#[tactic(auto, using(crate::proofs::Within::office_sends_in_range))]
 pub fn office_sends_in_range() -> bool
     ensures { OfficeSendsInRange }
 {
@@ -196,6 +217,7 @@ pub fn office_sends_in_range() -> bool
 }
 
 // The letters that the units send are read back from their bytes.
+#[tactic(auto, using(crate::proofs::Within::letters_sent_are_read_back))]
 pub fn letters_sent_are_read_back() -> bool
     ensures { LettersSentAreReadBack }
 {
@@ -203,6 +225,7 @@ pub fn letters_sent_are_read_back() -> bool
 }
 
 // Reading the output buffer of a served call gives the letters sent.
+#[tactic(auto, using(crate::proofs::Outputs::output_is_read_back))]
 pub fn output_is_read_back() -> bool
     ensures { OutputIsReadBack }
 {
@@ -210,6 +233,7 @@ pub fn output_is_read_back() -> bool
 }
 
 // 253 bytes hold all that a unit within range sends at a step.
+#[tactic(auto, using(crate::proofs::Within::little_is_sent))]
 pub fn little_is_sent() -> bool
     ensures { LittleIsSent }
 {
@@ -217,6 +241,7 @@ pub fn little_is_sent() -> bool
 }
 
 // A call of a unit within range that has its room leaves the unit as its rule says.
+#[tactic(auto, using(crate::proofs::Outputs::room_suffices))]
 pub fn room_suffices() -> bool
     ensures { RoomSuffices }
 {

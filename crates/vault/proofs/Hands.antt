@@ -1,6 +1,6 @@
 -- The turn of a party that bytes are handed to, step by step.
 use Rattle.std.proofs.Common.{◌≡◌, ℕ, ◌<◌, true, false, cond, ltb, List, length, get_or, set, Ok, Err, Result, sym, refl, ap, ◌∙◌, subst, arith}
-use Rattle.std.proofs.lemmas.Bool.Decides.{nat_tests}
+use Rattle.std.proofs.lemmas.Bool.{cond-true, cond-false, false_from_ne_true, lt-ltb, ltb-true}
 use Rattle.terms.specs.declared.refusals.Refusal.{Refusal}
 use Rattle.terms.specs.Parties.{party_number}
 use Rattle.terms.specs.Refusals.{no_room}
@@ -23,27 +23,19 @@ use Rattle.locks.specs.declared.lock.Lock.{Lock}
 use Rattle.locks.specs.Letters as Locks
 use Rattle.locks.specs.Rules.{replied, board_after, board_called}
 use Rattle.agreement.specs.Calls.{Vault, State, Call, Went, went, Turn, halted, unopened, controller_at, controller_went, after_opening, opens, letter_to_controller, letter_to_lock, lock_at, sender, no_such_unit}
+use Rattle.agreement.proofs.Bridge.{same_sender}
 use Rattle.vault.specs.Vaults.{Turned}
 use Rattle.vault.proofs.Steps.{turned_along, halted_turn, unopened_turn, controller_goes, lock_goes}
 
-sender_kept : (b : Body Span Spans) → sender_of (kept_body b) ≡ sender_of b
-sender_kept (B.Enrol p) = refl
-sender_kept (B.Receipt s p) = refl
-sender_kept (B.Order n) = refl
-sender_kept (B.Summons s n z) = refl
-sender_kept (B.Vote p n a) = refl
-sender_kept (B.Proposal s v x c m) = refl
-sender_kept (B.Assent s v x d) = refl
-sender_kept (B.Confirm s v x d) = refl
-sender_kept (B.Result s x) = refl
-sender_kept (B.Move s v b) = refl
+module _ (v : Vault) (s : State) (call : Call) (bytes : List ℕ) (rests : Vault → State → Letter Span Spans → Turn) where
+  abbrev rest : Letter Span Spans → Turn
+  rest = rests v s
 
-module _ (v : Vault) (s : State) (call : Call) (bytes : List ℕ) (rest : Letter Span Spans → Turn) where
   after_no_room : has_room call.out call.scratch ≡ false → after_opening v call bytes rest ≡ halted no_room
-  after_no_room h = ap (λ b. cond b (opens (opening v.sizes v.relation bytes) rest) (halted no_room)) h
+  after_no_room h = cond-false _ _ _ h
 
   after_opening_holds : has_room call.out call.scratch ≡ true → after_opening v call bytes rest ≡ opens (opening v.sizes v.relation bytes) rest
-  after_opening_holds h = ap (λ b. cond b (opens (opening v.sizes v.relation bytes) rest) (halted no_room)) h
+  after_opening_holds h = cond-true _ _ _ h
 
   -- what opening answered
   answered_so : (a : Result (Letter Span Spans) Refusal) → has_room call.out call.scratch ≡ true → a ≡ open_answer v.sizes v.relation bytes call.scratch → after_opening v call bytes rest ≡ opens a rest
@@ -57,12 +49,11 @@ module _ (v : Vault) (s : State) (call : Call) (bytes : List ℕ) (rest : Letter
     handed_turn = cond (ltb h len) (after_opening v call bytes rest) (halted no_such_unit)
 
     there : h < len → handed_turn ≡ after_opening v call bytes rest
-    there l = let yes : ltb h len ≡ true = grind (arith, nat_tests) in ap (λ b. cond b (after_opening v call bytes rest) (halted no_such_unit)) yes
+    there l = cond-true _ _ _ (lt-ltb h len l)
 
     pub hands_to_nobody : (e : Refusal) → (h < len → ⊥) → e ≡ no_such_unit → Turned v s call handed_turn (went (Err e) s call.out call.scratch)
     hands_to_nobody e l k =
-        let no : ltb h len ≡ false = grind (arith, nat_tests) in
-        turned_along v s call (halted no_such_unit) handed_turn _ (sym (ap (λ b. cond b (after_opening v call bytes rest) (halted no_such_unit)) no)) (halted_turn v s call no_such_unit e k)
+        turned_along v s call (halted no_such_unit) handed_turn _ (sym (cond-false _ _ _ (false_from_ne_true (ltb h len) (λ q. l (ltb-true h len q))))) (halted_turn v s call no_such_unit e k)
 
     pub hands_without_room : (a : Result (AtMostTwo ℕ) Refusal) → h < len → has_room call.out call.scratch ≡ false → a ≡ Err no_room → Turned v s call handed_turn (went a s call.out call.scratch)
     hands_without_room a l r k =
@@ -84,7 +75,7 @@ pub controller_receives :
 controller_receives v s call n at d l scratch' w e h r k g =
     controller_goes v s call n at d (λ u own. pointed (sender l) (Controllers.letter_rule v.sizes v.change u (kept l) own)) w e h
     (goes_cleared v.relation v.change _ call.out call.scratch scratch' _ w r k
-    (goes_along (λ z. ap (λ q. pointed (party_number q) (Controllers.letter_rule v.sizes v.change (get_or s.controllers at d) (kept l) z)) (sender_kept l.body)) g))
+    (goes_along (λ z. ap (λ q. pointed (party_number q) (Controllers.letter_rule v.sizes v.change (get_or s.controllers at d) (kept l) z)) (same_sender l.body)) g))
 
 -- a lock receives what was opened
 pub lock_receives :

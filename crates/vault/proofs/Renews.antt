@@ -37,5 +37,5 @@ pub record LeftAlone (fits : Bool) (f l t : ℕ) (e : Refusal) (cs : List Contro
   pub locks : ks ≡ locks_set_up fits l ks
 
 pub left_alone : (b rest : Bool) (f l t : ℕ) (e : Refusal) (cs : List Controller) (ks : List Lock) → Err e ≡ cond b (Ok (counts f l)) (Err set_up) → LeftAlone (b && rest) f l t e cs ks
-left_alone true rest f l t e cs ks r = let z : ◌≡◌ {A = ℕ} 0 1 = cc in absurd (omega arith)
+left_alone true rest f l t e cs ks r = cc
 left_alone false rest f l t e cs ks r = let same : e ≡ set_up = cc in record { answer = ap Err same; controllers = refl; locks = refl }

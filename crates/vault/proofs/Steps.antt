@@ -1,14 +1,17 @@
 -- From what a unit's call says to what the call on the whole vault says.
 use Rattle.std.proofs.Common.{◌≡◌, ℕ, zero, suc, ◌<◌, Bool, true, false, cond, ◌&&◌, ltb, List, [], ◌∷◌, length, get_or, set, Some, None, Ok, Err, Option, Result, sym, refl, ap, ◌∙◌, subst, arith}
 use Rattle.std.specs.Result.{result_ok}
+use Rattle.std.proofs.lemmas.Bool.{false≢true}
 use Rattle.std.proofs.lemmas.Bool.Decides.{nat_tests}
+use Rattle.std.proofs.lemmas.List.{get_or_default}
 use Rattle.terms.specs.declared.numbers.Change.{Change}
 use Rattle.terms.specs.declared.numbers.Place.{Place}
+use Rattle.terms.specs.declared.parties.Party.{Party}
 use Rattle.terms.specs.declared.refusals.Refusal.{Refusal}
 use Rattle.terms.specs.declared.refusals.RuleCause.{RuleCause}
 use Rattle.terms.specs.declared.sizes.Sizes.{Sizes}
 use Rattle.terms.specs.Numbers.{seat, place}
-use Rattle.terms.specs.Parties.{seat_in, place_in}
+use Rattle.terms.specs.Parties.{seat_in, place_in, party_in}
 use Rattle.terms.specs.Sizes.{seat_count}
 use Rattle.letters.specs.declared.sorts.Seal.{Seal}
 use Rattle.seals.specs.Opening.{Relation}
@@ -25,11 +28,8 @@ use Rattle.locks.specs.declared.lock.Lock.{Lock}
 use Rattle.locks.specs.Rules as Lock-rules
 use Rattle.locks.specs.Rules.{replied, board_after, board_called, nothing, passing, enrol_rule, may_apply, decline_rule, may_decline}
 use Rattle.office.specs.declared.Office.{Office}
-use Rattle.agreement.specs.Calls.{Vault, State, Call, Went, went, Turn, halted, unopened, of_controller, of_lock, of_office, asks_controller, asks_lock, controller_at, lock_at, no_such_unit, turn_of, turn_went, turn_sealed, controller_went, lock_went, office_went, step, Step}
+use Rattle.agreement.specs.Calls.{Vault, State, Call, Went, went, Turn, halted, unopened, of_controller, of_lock, of_office, asks_controller, asks_lock, controller_at, lock_at, no_such_unit, hands_in, handed_to, turn_for, turn_of, turn_went, turn_sealed, controller_went, lock_went, office_went, step, Step}
 use Rattle.vault.specs.Vaults.{reach, Turned}
-
-false_true : false ≡ true → ⊥
-false_true e = let z : ◌≡◌ {A = ℕ} 0 1 = ap (λ b. cond b 1 0) e in omega arith
 
 plain_sealed : {U : Type 0} (holds : Relation) (t : Change) (zs : Seals) (from : ℕ) (r : Reply RuleCause U) → reply_sealed holds t zs (pointed from r) ≡ true → reply_sealed holds t zs r ≡ true
 plain_sealed holds t zs from (refused c) e = refl
@@ -55,7 +55,7 @@ halted_turn v s call e e' k = record {
   seals = no_seals;
   words = refl;
   goes = ap (λ x. went (Err x) s call.out call.scratch) k;
-  sealed = λ o. absurd (false_true o);
+  sealed = λ o. absurd (false≢true o);
 }
 
 pub unopened_turn : (v : Vault) (s : State) (call : Call) (e : Refusal) (scratch' : List ℕ) → has_room call.out call.scratch ≡ true → scratch' ≡ scratch_after call.scratch → Turned v s call (unopened e) (went (Err e) s call.out scratch')
@@ -63,7 +63,7 @@ unopened_turn v s call e scratch' h k = record {
   seals = no_seals;
   words = refl;
   goes = ap (went (Err e) s call.out) (k ∙ ap (λ b. cond b (cleared call.scratch) call.scratch) (scratch_room call.out call.scratch h));
-  sealed = λ o. absurd (false_true o);
+  sealed = λ o. absurd (false≢true o);
 }
 
 controller_turn :
@@ -77,11 +77,11 @@ controller_turn v s call h rule w g = record { seals = g.seals; words = g.words;
 module _ {K : Type 0} (k : K) (n len : ℕ) (ask : Option K → Turn) (turn : Turn) (none : ask None ≡ halted no_such_unit) (some : ask (Some k) ≡ cond (ltb n len) turn (halted no_such_unit)) where
   asked : (b c : Bool) (at : ℕ) → ltb n len ≡ c → Ok at ≡ cond (b && c) (Ok n) (Err no_such_unit) → (ask (cond b (Some k) None) ≡ turn) × (at ≡ n)
   asked true true at e r = (some ∙ ap (λ x. cond x turn (halted no_such_unit)) e, cc)
-  asked true false at e r = let z : ◌≡◌ {A = ℕ} 0 1 = cc in absurd (omega arith)
-  asked false c at e r = let z : ◌≡◌ {A = ℕ} 0 1 = cc in absurd (omega arith)
+  asked true false at e r = cc
+  asked false c at e r = cc
 
   unasked : (b c : Bool) (e' : Refusal) → ltb n len ≡ c → Err e' ≡ cond (b && c) (Ok n) (Err no_such_unit) → (ask (cond b (Some k) None) ≡ halted no_such_unit) × (e' ≡ no_such_unit)
-  unasked true true e' e r = let z : ◌≡◌ {A = ℕ} 0 1 = cc in absurd (omega arith)
+  unasked true true e' e r = cc
   unasked true false e' e r = (some ∙ ap (λ x. cond x turn (halted no_such_unit)) e, cc)
   unasked false c e' e r = (none, cc)
 
@@ -102,15 +102,10 @@ module _ (s : State) (sizes : Sizes) (n : ℕ) where
 
 within : (n count len at : ℕ) (b : Bool) → (ltb n count && ltb n len) ≡ b → Ok at ≡ cond b (Ok n) (Err no_such_unit) → n < len
 within n count len at true e r = grind (arith, nat_tests)
-within n count len at false e r = let z : ◌≡◌ {A = ℕ} 0 1 = cc in absurd (omega arith)
+within n count len at false e r = cc
 
 pub reached : (n count len at : ℕ) → Ok at ≡ reach n count len → n < len
 reached n count len at r = within n count len at (ltb n count && ltb n len) refl r
-
-any_default : {X : Type 0} (xs : List X) (i : ℕ) (d e : X) → i < length xs → get_or xs i d ≡ get_or xs i e
-any_default [] i d e h = absurd (omega arith)
-any_default (x ∷ xs) zero d e h = refl
-any_default (x ∷ xs) (suc i) d e h = any_default xs i d e (omega arith)
 
 pub controller_goes :
     (v : Vault) (s : State) (call : Call) (n at : ℕ) (d : Controller) (rule : Controller → Seal → Reply Refusal Controller) (w : Unit-calls.Went Controller) →
@@ -118,7 +113,7 @@ pub controller_goes :
     Goes v.relation v.change (get_or s.controllers at d) call.out call.scratch (rule (get_or s.controllers at d)) w →
     Turned v s call (of_controller n (rule (controller_at s n))) (controller_went s at w)
 controller_goes v s call n at d rule w e h g =
-    let same : get_or s.controllers at d ≡ controller_at s n = ap (λ k. get_or s.controllers k d) e ∙ any_default s.controllers n d _ h in
+    let same : get_or s.controllers at d ≡ controller_at s n = ap (λ k. get_or s.controllers k d) e ∙ get_or_default s.controllers n d _ h in
     subst (λ k. Turned v s call (of_controller n (rule (controller_at s n))) (controller_went s k w)) (sym e)
     (controller_turn v s call n (rule (controller_at s n)) w (subst (λ u. Goes v.relation v.change u call.out call.scratch (rule u) w) same g))
 
@@ -149,7 +144,7 @@ pub lock_goes :
     m ≡ board_of s call (get_or s.locks at d) (rule (get_or s.locks at d)) →
     Turned v s call (of_lock n from (rule (lock_at s n))) (left_by s at w m)
 lock_goes v s call n at from d rule w m e h g b =
-    let same : get_or s.locks at d ≡ lock_at s n = ap (λ k. get_or s.locks k d) e ∙ any_default s.locks n d _ h in
+    let same : get_or s.locks at d ≡ lock_at s n = ap (λ k. get_or s.locks k d) e ∙ get_or_default s.locks n d _ h in
     let turn = of_lock n from (rule (lock_at s n)) in
     subst (λ x. Turned v s call turn (left_by s at w x)) (sym (b ∙ ap (λ k. board_of s call k (rule k)) same))
     (subst (λ k. Turned v s call turn (left_by s k w (board_of s call (lock_at s n) (rule (lock_at s n))))) (sym e)
@@ -188,7 +183,7 @@ office_turn v s call r w g = record { seals = g.seals; words = g.words; goes = a
 -- the index that is reached
 pub ok_at : (r : Result ℕ Refusal) (at : ℕ) → Some at ≡ result_ok r → Ok at ≡ r
 ok_at (Ok n) at e = cc
-ok_at (Err x) at e = let z : ◌≡◌ {A = ℕ} 0 1 = cc in absurd (omega arith)
+ok_at (Err x) at e = cc
 
 -- a question to the unit that is reached
 pub asked_at :
@@ -197,5 +192,40 @@ pub asked_at :
 asked_at answer none units n count at d e r = found (ltb n count && ltb n (length units)) refl r
   where
     found : (b : Bool) → (ltb n count && ltb n (length units)) ≡ b → Ok at ≡ cond b (Ok n) (Err no_such_unit) → answer (get_or units at d) ≡ cond b (answer (get_or units n e)) none
-    found true k q = let same : at ≡ n = cc in ap (λ i. answer (get_or units i d)) same ∙ ap answer (any_default units n d e (within n count (length units) at true k q))
-    found false k q = let z : ◌≡◌ {A = ℕ} 0 1 = cc in absurd (omega arith)
+    found true k q = let same : at ≡ n = cc in ap (λ i. answer (get_or units i d)) same ∙ ap answer (get_or_default units n d e (within n count (length units) at true k q))
+    found false k q = cc
+
+-- ---- a call on one unit of the vault: the unit that is reached has its turn, and none has where none is reached
+
+module _ {v : Vault} {s : State} {call : Call} (n : ℕ) where
+  pub controller_step :
+      (rule : Controller → Seal → Reply Refusal Controller) (at : ℕ) (d : Controller) (w : Unit-calls.Went Controller) →
+      turn_of v s call ≡ asks_controller s (seat_in v.sizes n) (λ u. of_controller n (rule u)) → Ok at ≡ reach n (seat_count v.sizes) (length s.controllers) →
+      Goes v.relation v.change (get_or s.controllers at d) call.out call.scratch (rule (get_or s.controllers at d)) w → Step v s call (controller_went s at w)
+  controller_step rule at d w t r g =
+      let found = asks_controller_holds s v.sizes n (λ u. of_controller n (rule u)) at r in
+      step_by v s call _ _ (t ∙ found.0) (controller_goes v s call n at d rule w found.1 (reached n _ _ at r) g)
+
+  pub no_controller_step :
+      (rest : Controller → Turn) (e : Refusal) → turn_of v s call ≡ asks_controller s (seat_in v.sizes n) rest → Err e ≡ reach n (seat_count v.sizes) (length s.controllers) →
+      Step v s call (went (Err e) s call.out call.scratch)
+  no_controller_step rest e t r = let found = asks_no_controller s v.sizes n rest e r in no_such_step v s call e (t ∙ found.0, found.1)
+
+  pub quiet_lock_step :
+      (rule : Lock → Lock-rules.Reply) (at : ℕ) (d : Lock) (w : Unit-calls.Went Lock) → ((k : Lock) (m : Meaning) → board_after m k.place (rule k) ≡ m) →
+      turn_of v s call ≡ asks_lock s (place_in v.sizes n) (λ k. of_lock n 0 (rule k)) → Ok at ≡ reach n v.sizes.locks (length s.locks) →
+      Goes v.relation v.change (get_or s.locks at d) call.out call.scratch (λ z. pointed 0 (replied (rule (get_or s.locks at d)))) w → Step v s call (left_by s at w s.board)
+  quiet_lock_step rule at d w q t r g =
+      let found = asks_lock_holds s v.sizes n (λ k. of_lock n 0 (rule k)) at r in
+      step_by v s call _ _ (t ∙ found.0) (quiet_lock_goes v s call n at 0 d rule w found.1 (reached n _ _ at r) g q)
+
+  pub no_lock_step :
+      (rest : Lock → Turn) (e : Refusal) → turn_of v s call ≡ asks_lock s (place_in v.sizes n) rest → Err e ≡ reach n v.sizes.locks (length s.locks) →
+      Step v s call (went (Err e) s call.out call.scratch)
+  no_lock_step rest e t r = let found = asks_no_lock s v.sizes n rest e r in no_such_step v s call e (t ∙ found.0, found.1)
+
+-- a call that hands in bytes, by whom they are for
+pub handed_step :
+    {v : Vault} {s : State} {call : Call} (n : ℕ) (bytes : List ℕ) (to : Option Party) (w : Went) →
+    call.request ≡ hands_in n bytes → party_in v.sizes n ≡ to → Turned v s call (handed_to v s call bytes to) w → Step v s call w
+handed_step {v} {s} {call} n bytes to w asked for t = step_by v s call _ w (ap (turn_for v s call) asked ∙ ap (handed_to v s call bytes) for) t

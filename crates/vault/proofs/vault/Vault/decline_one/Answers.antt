@@ -1,24 +1,13 @@
+use Rattle.std.proofs.Common.{refl}
 use Rattle.std.proofs.lemmas.Result.{err_from_is_err_and}
 use Rattle.locks.specs.Rules.{decline_rule}
-use Rattle.agreement.specs.Calls.{declines}
-use Rattle.vault.specs.Vaults.{constant, state, call}
-use Rattle.vault.proofs.Steps.{step_by, quiet_lock_goes, decline_quiet, no_such_step, asks_lock_holds, asks_no_lock, reached}
+use Rattle.vault.proofs.Steps.{quiet_lock_step, no_lock_step, decline_quiet}
 use Rattle.vault.proofs.vault.Vault.decline_one.Goals as goal
 
 pub returns-in_err-at : goal.returns-in_err-at
 returns-in_err-at g c =
-    let v = constant c.args.self.now (g.S.Scheme.holds c.args.scheme.now) in
-    let s = state c.args.controllers.now c.args.locks.now c.args.self.now (g.B.Board.meaning c.args.board.now) in
     let p = err_from_is_err_and c.from_residual.result c.from_residual.ensures.1 in
-    rw (p.1, p.2)
-    (no_such_step v s (call (declines c.args.place) c.args.out.now c.args.scratch.now) _ (asks_no_lock s v.sizes c.args.place _ _ c.in_err-at.ensures.value))
+    rw (p.1, p.2) (no_lock_step c.args.place _ _ refl c.in_err-at.ensures.value)
 
 pub returns : goal.returns
-returns g c =
-    let v = constant c.args.self.now (g.S.Scheme.holds c.args.scheme.now) in
-    let s = state c.args.controllers.now c.args.locks.now c.args.self.now (g.B.Board.meaning c.args.board.now) in
-    let n = c.args.place in
-    let found = asks_lock_holds s v.sizes n _ c.in_ok-at.at c.in_ok-at.ensures.value in
-    let asked = call (declines n) c.args.out.now c.args.scratch.now in
-    step_by v s asked _ _ found.0
-    (quiet_lock_goes v s asked n c.in_ok-at.at 0 _ decline_rule _ found.1 (reached n _ _ _ c.in_ok-at.ensures.value) c.decline.ensures.call decline_quiet)
+returns g c = quiet_lock_step c.args.place decline_rule _ _ _ decline_quiet refl c.in_ok-at.ensures.value c.decline.ensures.call

@@ -1,11 +1,5 @@
-use Rattle.vault.proofs.Laws.{share_one_result, voted_ready_if_enrolled, ordered_by_office, one_result}
+use Rattle.vault.proofs.Laws.{keeps_laws}
 use Rattle.vault.proofs.vault.Vault.propose.Goals as goal
 
 pub returns : goal.returns
-returns g c = record {
-  by_the_rules = c.propose_one.ensures;
-  honest_locks_share_one_result = share_one_result c.propose_one.ensures;
-  enrolled_locks_voted_ready = voted_ready_if_enrolled c.propose_one.ensures;
-  honest_office_ordered = ordered_by_office c.propose_one.ensures;
-  honest_controllers_hold_one_result = one_result c.propose_one.ensures;
-}
+returns g c = assumption (keeps_laws c.propose_one.ensures)
