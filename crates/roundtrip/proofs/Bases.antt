@@ -278,11 +278,11 @@ spans_found sizes t v numbered xs a x a1 e s a2 k (p, n) q r =
     }
 
 none_certified : (c : Span) → ◌≡◌ {A = Option Span} None (Some c) → certificate_bytes (certificate_in c.bytes) ≡ c.bytes
-none_certified c e = let z : ◌≡◌ {A = ℕ} 0 1 = cc in absurd (omega arith)
+none_certified c e = cc
 
 pub grounds_found : (sizes : Sizes) (t : Change) (v : View) (given numbered : Bool) (xs : List ℕ) → Bytes xs → (a : ℕ) → a ≤ length xs → (p : Option Spans × ℕ) → grounds_if given numbered sizes t v xs a ≡ Ok p → GroundsFound sizes t v given numbered xs a p
 grounds_found sizes t v false numbered xs bytes a h p e = subst (GroundsFound sizes t v false numbered xs a) (ok_same e)
-    (record { piece = nothing xs a h; fit = refl; some = refl; outcome = λ f. (let z : ◌≡◌ {A = ℕ} 0 1 = cc in absurd (omega arith)); same = λ c f. none_certified c f })
+    (record { piece = nothing xs a h; fit = refl; some = refl; outcome = λ f. cc; same = λ c f. none_certified c f })
 grounds_found sizes t v true numbered xs bytes a h p e =
     step (outcome_if numbered xs a) _ p e (λ q1 e1 d1.
     step (basis_field sizes t v xs q1.1) _ p d1 (λ q2 e2 d2.

@@ -115,7 +115,7 @@ module _ (xs : List ℕ) (bytes : Bytes xs) (a : ℕ) where
       subst (λ (p : ℕ × ℕ). Piece xs a (p.0 ∷ []) p.1 × (p.0 < 256) × (bit_and p.0 of ≡ p.0)) (ok_same e3) (s, b, eqb-true _ _ t)
 
   flag_is : (n voted : ℕ) (x : Bool) → eqb n 1 ≡ x → (x || (eqb n 0 && eqb voted 0)) ≡ true → (n ≡ cond x 1 0) × (x ≡ false → voted ≡ 0)
-  flag_is n voted true e h = (eqb-true _ _ e, λ f. let z : ◌≡◌ {A = ℕ} 0 1 = cc in absurd (omega arith))
+  flag_is n voted true e h = (eqb-true _ _ e, λ f. cc)
   flag_is n voted false e h = let g = and_parts (eqb n 0) (eqb voted 0) h in (eqb-true _ _ g.0, λ f. eqb-true _ _ g.1)
 
   flag_found : (voted : ℕ) (p : Bool × ℕ) → flag_field voted xs a ≡ Ok p → Piece xs a (cond p.0 1 0 ∷ []) p.1 × (p.0 ≡ false → voted ≡ 0)
@@ -172,7 +172,7 @@ apart c {xs} {a} {b} p =
 
 none_voted : (o : Option KeyNumber) (vs : List (Option Vote)) → cancel_unvoted o vs ≡ true → o ≡ None → map_of is_some vs ≡ 0
 none_voted None vs f e = eqb-true _ _ f
-none_voted (Some n) vs f e = let z : ◌≡◌ {A = ℕ} 0 1 = cc in absurd (omega arith)
+none_voted (Some n) vs f e = cc
 
 pub fields_read : (sizes : Sizes) (c : Certificate) {xs : List ℕ} {a b : ℕ} → Fits sizes c → Piece xs a (certificate_bytes c) b → certificate_fields sizes xs a ≡ Ok (tt, b)
 fields_read sizes c {xs} {a} {b} f p =

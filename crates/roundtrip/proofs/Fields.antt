@@ -92,7 +92,7 @@ kind_is n k e =
     picks n 7 K.Assent _ k refl e (λ e.
     picks n 8 K.Confirm _ k refl e (λ e.
     picks n 9 K.Result _ k refl e (λ e.
-    picks n 10 K.Move None k refl e (λ e. let z : ◌≡◌ {A = ℕ} 0 1 = cc in absurd (omega arith)))))))))))
+    picks n 10 K.Move None k refl e (λ e. cc))))))))))
 
 pub kind_reads : {xs : List ℕ} {a b : ℕ} (k : Kind) → Piece xs a (kind_bytes k) b → F.kind_field xs a ≡ Ok (k, b)
 kind_reads {xs} {a} {b} k p = picked_reads byte xs a kind_of (kind_number k) k b (byte_reads p) (kind_back k)
@@ -144,25 +144,25 @@ abbrev party_by : Bool → Bool → Option Place → Option Seat → Option Part
 party_by office lock p s = cond office (Some Office) (cond lock (as_lock p) (as_controller s))
 
 lock_by : (x y : Bool) (o : Option Place) (s : Option Seat) (p : Place) → F.lock_of (party_by x y o s) ≡ Some p → (y ≡ true) × (o ≡ Some p)
-lock_by true y o s p e = let z : ◌≡◌ {A = ℕ} 0 1 = cc in absurd (omega arith)
+lock_by true y o s p e = cc
 lock_by false true (Some q) s p e = (refl, e)
-lock_by false true None s p e = let z : ◌≡◌ {A = ℕ} 0 1 = cc in absurd (omega arith)
-lock_by false false o (Some s) p e = let z : ◌≡◌ {A = ℕ} 0 1 = cc in absurd (omega arith)
-lock_by false false o None p e = let z : ◌≡◌ {A = ℕ} 0 1 = cc in absurd (omega arith)
+lock_by false true None s p e = cc
+lock_by false false o (Some s) p e = cc
+lock_by false false o None p e = cc
 
 controller_by : (x y : Bool) (o : Option Place) (s : Option Seat) (p : Seat) → F.controller_of (party_by x y o s) ≡ Some p → s ≡ Some p
-controller_by true y o s p e = let z : ◌≡◌ {A = ℕ} 0 1 = cc in absurd (omega arith)
-controller_by false true (Some q) s p e = let z : ◌≡◌ {A = ℕ} 0 1 = cc in absurd (omega arith)
-controller_by false true None s p e = let z : ◌≡◌ {A = ℕ} 0 1 = cc in absurd (omega arith)
+controller_by true y o s p e = cc
+controller_by false true (Some q) s p e = cc
+controller_by false true None s p e = cc
 controller_by false false o (Some s) p e = e
-controller_by false false o None p e = let z : ◌≡◌ {A = ℕ} 0 1 = cc in absurd (omega arith)
+controller_by false false o None p e = cc
 
 office_by : (x y : Bool) (o : Option Place) (s : Option Seat) (p : Unit {0}) → F.office_of (party_by x y o s) ≡ Some p → x ≡ true
 office_by true y o s p e = refl
-office_by false true (Some q) s p e = let z : ◌≡◌ {A = ℕ} 0 1 = cc in absurd (omega arith)
-office_by false true None s p e = let z : ◌≡◌ {A = ℕ} 0 1 = cc in absurd (omega arith)
-office_by false false o (Some s) p e = let z : ◌≡◌ {A = ℕ} 0 1 = cc in absurd (omega arith)
-office_by false false o None p e = let z : ◌≡◌ {A = ℕ} 0 1 = cc in absurd (omega arith)
+office_by false true (Some q) s p e = cc
+office_by false true None s p e = cc
+office_by false false o (Some s) p e = cc
+office_by false false o None p e = cc
 
 assoc : {A B C : Type 0} (r : Result A Refusal) (f : A → Result B Refusal) (g : B → Result C Refusal) → (r >>= f >>= g) ≡ (r >>= (λ x. f x >>= g))
 assoc (Ok x) f g = refl
@@ -240,7 +240,7 @@ answer_back Refuse = refl
 answer_is : (x y : Bool) (a : Answer) → cond x (Some Ready) (cond y (Some Refuse) None) ≡ Some a → ((x ≡ true) × (a ≡ Ready)) ⊎ ((y ≡ true) × (a ≡ Refuse))
 answer_is true y a e = inl (refl, cc)
 answer_is false true a e = inr (refl, cc)
-answer_is false false a e = let z : ◌≡◌ {A = ℕ} 0 1 = cc in absurd (omega arith)
+answer_is false false a e = cc
 
 pub answer_reads : {xs : List ℕ} {a : ℕ} {p : Answer × ℕ} → Piece xs a (answer_bytes p.0) p.1 → F.answer_field xs a ≡ Ok p
 answer_reads {xs} {a} {p} s = picked_reads byte xs a answer_of _ p.0 p.1 (byte_reads s) (answer_back p.0)

@@ -36,14 +36,14 @@ record BodyFound (sizes : Sizes) (t : Change) (xs : List ℕ) (p : Body Span Spa
   same : (c : Span) → certificate_part p.0 ≡ Some c → certificate_bytes (certificate_in c.bytes) ≡ c.bytes
 
 no_certificate : (c : Span) → ◌≡◌ {A = Option Span} None (Some c) → certificate_bytes (certificate_in c.bytes) ≡ c.bytes
-no_certificate c e = let z : ◌≡◌ {A = ℕ} 0 1 = cc in absurd (omega arith)
+no_certificate c e = cc
 
 moved_is : (l moved z : Bool) → (l && cond moved (not z) z) ≡ true → (l ≡ true) × (moved ≡ not z)
 moved_is true true true e = (refl, sym e)
 moved_is true true false e = (refl, refl)
 moved_is true false true e = (refl, refl)
 moved_is true false false e = (refl, e)
-moved_is false moved z e = let w : ◌≡◌ {A = ℕ} 0 1 = cc in absurd (omega arith)
+moved_is false moved z e = cc
 
 module _ (sizes : Sizes) (t : Change) (m : ℕ) (xs : List ℕ) (bytes : Bytes xs) (small : ltb m 8192 ≡ true) (o : ℕ) (p : Body Span Spans × ℕ) where
   -- what every letter begins with, by its own map

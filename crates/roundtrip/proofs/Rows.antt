@@ -182,7 +182,7 @@ pub voted_within : (es : List (Option Seal)) (vs : List (Option Vote)) → votes
 unfolding map_of votes_within
 voted_within es [] f = refl
 voted_within [] (None ∷ vs) f = let e : map_of is_some vs ≡ 0 = sym (voted_within [] vs f) ∙ and_zero_r _ in and_zero_r _ ∙ omega arith
-voted_within [] (Some v ∷ vs) f = let z : ◌≡◌ {A = ℕ} 0 1 = cc in absurd (omega arith)
+voted_within [] (Some v ∷ vs) f = cc
 voted_within (e ∷ es) (None ∷ vs) f = more_within false (is_some e) _ _ (voted_within es vs f) (λ q. grind (arith, q))
 voted_within (e ∷ es) (Some v ∷ vs) f = let g = and_parts (is_some e) (votes_within es vs) f in more_within true (is_some e) _ _ (voted_within es vs g.1) (λ q. g.0)
 
