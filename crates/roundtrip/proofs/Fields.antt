@@ -1,5 +1,6 @@
 -- Each field of a letter: its bytes are read as its value, and what is read has those bytes.
 use Rattle.std.proofs.Common.{◌≡◌, ℕ, ◌+◌, ◌-◌, ◌%◌, ◌<◌, ◌≤◌, Bool, true, false, cond, eqb, leb, ◌⊎◌, List, [], ◌∷◌, length, is_some, Some, None, Ok, Err, Option, Result, sym, refl, ap, ◌∙◌, subst, inl, inr, arith}
+use Rattle.std.proofs.lemmas.Bool.Decides.{nat_tests}
 use Rattle.std.proofs.lemmas.Bool.{leb-true, le-leb, lt-leb, lt-ltb, ltb-true, eqb-true, ne_eqb, cond-true}
 use Rattle.terms.specs.declared.numbers.Change.{Change}
 use Rattle.terms.specs.declared.numbers.KeyNumber.{KeyNumber}
@@ -74,25 +75,8 @@ kind_back K.Confirm = refl
 kind_back K.Result = refl
 kind_back K.Move = refl
 
-picks : (n i : ℕ) (k₀ : Kind) (rest : Option Kind) (k : Kind) → kind_number k₀ ≡ i → cond (eqb n i) (Some k₀) rest ≡ Some k → (rest ≡ Some k → kind_number k ≡ n) → kind_number k ≡ n
-picks n i k₀ rest k f e g = go (eqb n i) refl e
-  where
-    go : (t : Bool) → eqb n i ≡ t → cond t (Some k₀) rest ≡ Some k → kind_number k ≡ n
-    go true h e = let s : k₀ ≡ k = cc in ap kind_number (sym s) ∙ (f ∙ sym (eqb-true n i h))
-    go false h e = g e
-
 kind_is : (n : ℕ) (k : Kind) → kind_of n ≡ Some k → kind_number k ≡ n
-kind_is n k e =
-    picks n 1 K.Enrol _ k refl e (λ e.
-    picks n 2 K.Receipt _ k refl e (λ e.
-    picks n 3 K.Order _ k refl e (λ e.
-    picks n 4 K.Summons _ k refl e (λ e.
-    picks n 5 K.Vote _ k refl e (λ e.
-    picks n 6 K.Proposal _ k refl e (λ e.
-    picks n 7 K.Assent _ k refl e (λ e.
-    picks n 8 K.Confirm _ k refl e (λ e.
-    picks n 9 K.Result _ k refl e (λ e.
-    picks n 10 K.Move None k refl e (λ e. cc))))))))))
+kind_is n k e = grind (arith, nat_tests)
 
 pub kind_reads : {xs : List ℕ} {a b : ℕ} (k : Kind) → Piece xs a (kind_bytes k) b → F.kind_field xs a ≡ Ok (k, b)
 kind_reads {xs} {a} {b} k p = picked_reads byte xs a kind_of (kind_number k) k b (byte_reads p) (kind_back k)
@@ -124,7 +108,7 @@ pub change_found : (xs : List ℕ) → Bytes xs → (a : ℕ) (p : Change × ℕ
 change_found xs bytes a p e = byte_picked change_of (λ t. t.0 % 256) (λ t. is_change t.0) xs bytes a p is e
   where
     is : (n : ℕ) → n < 256 → change_of n ≡ Some p.0 → (p.0.0 % 256 ≡ n) × (is_change p.0.0 ≡ true)
-    is n h f = let w = within_some _ _ _ f in subst (λ (t : Change). (t.0 % 256 ≡ n) × (is_change t.0 ≡ true)) w.1 (same_byte n h, w.0)
+    is n h f = grind (arith, nat_tests)
 
 -- ---- place
 
@@ -135,34 +119,9 @@ pub place_found : (sizes : Sizes) (xs : List ℕ) → Bytes xs → (a : ℕ) (p 
 place_found sizes xs bytes a p e = byte_picked (place_in sizes) (λ q. q.0) (place_fits sizes) xs bytes a p is e
   where
     is : (n : ℕ) → n < 256 → place_in sizes n ≡ Some p.0 → (p.0.0 ≡ n) × (place_fits sizes p.0 ≡ true)
-    is n h f = let w = within_some _ _ _ f in subst (λ (q : Place). (q.0 ≡ n) × (place_fits sizes q ≡ true)) w.1 (refl, w.0)
+    is n h f = grind (arith, nat_tests)
 
 -- ---- sender
-
--- the party that a number names, by the tests on it
-abbrev party_by : Bool → Bool → Option Place → Option Seat → Option Party
-party_by office lock p s = cond office (Some Office) (cond lock (as_lock p) (as_controller s))
-
-lock_by : (x y : Bool) (o : Option Place) (s : Option Seat) (p : Place) → F.lock_of (party_by x y o s) ≡ Some p → (y ≡ true) × (o ≡ Some p)
-lock_by true y o s p e = cc
-lock_by false true (Some q) s p e = (refl, e)
-lock_by false true None s p e = cc
-lock_by false false o (Some s) p e = cc
-lock_by false false o None p e = cc
-
-controller_by : (x y : Bool) (o : Option Place) (s : Option Seat) (p : Seat) → F.controller_of (party_by x y o s) ≡ Some p → s ≡ Some p
-controller_by true y o s p e = cc
-controller_by false true (Some q) s p e = cc
-controller_by false true None s p e = cc
-controller_by false false o (Some s) p e = e
-controller_by false false o None p e = cc
-
-office_by : (x y : Bool) (o : Option Place) (s : Option Seat) (p : Unit {0}) → F.office_of (party_by x y o s) ≡ Some p → x ≡ true
-office_by true y o s p e = refl
-office_by false true (Some q) s p e = cc
-office_by false true None s p e = cc
-office_by false false o (Some s) p e = cc
-office_by false false o None p e = cc
 
 assoc : {A B C : Type 0} (r : Result A Refusal) (f : A → Result B Refusal) (g : B → Result C Refusal) → (r >>= f >>= g) ≡ (r >>= (λ x. f x >>= g))
 assoc (Ok x) f g = refl
@@ -189,11 +148,7 @@ pub lock_found : (sizes : Sizes) (xs : List ℕ) → Bytes xs → (a : ℕ) (p :
 lock_found sizes xs bytes a p e = byte_picked (λ n. F.lock_of (party_in sizes n)) (λ q. (32 + q.0) % 256) (place_fits sizes) xs bytes a p is (sym (sender sizes F.lock_of xs a) ∙ e)
   where
     is : (n : ℕ) → n < 256 → F.lock_of (party_in sizes n) ≡ Some p.0 → ((32 + p.0.0) % 256 ≡ n) × (place_fits sizes p.0 ≡ true)
-    is n h f =
-        let (g, k) = lock_by (eqb n 64) (leb 32 n) (place_in sizes (n - 32)) (seat_in sizes n) p.0 f in
-        let l = leb-true _ _ g in
-        let w = within_some _ _ _ k in
-        subst (λ (q : Place). ((32 + q.0) % 256 ≡ n) × (place_fits sizes q ≡ true)) w.1 (omega arith, w.0)
+    is n h f = grind (arith, nat_tests)
 
 controller_back : (sizes : Sizes) (s : Seat) → seat_fits sizes s ≡ true → F.controller_of (party_in sizes (s.0 % 256)) ≡ Some s
 controller_back sizes s f =
@@ -208,10 +163,7 @@ pub controller_found : (sizes : Sizes) (xs : List ℕ) → Bytes xs → (a : ℕ
 controller_found sizes xs bytes a p e = byte_picked (λ n. F.controller_of (party_in sizes n)) (λ q. q.0 % 256) (seat_fits sizes) xs bytes a p is (sym (sender sizes F.controller_of xs a) ∙ e)
   where
     is : (n : ℕ) → n < 256 → F.controller_of (party_in sizes n) ≡ Some p.0 → (p.0.0 % 256 ≡ n) × (seat_fits sizes p.0 ≡ true)
-    is n h f =
-        let k = controller_by (eqb n 64) (leb 32 n) (place_in sizes (n - 32)) (seat_in sizes n) p.0 f in
-        let w = within_some _ _ _ k in
-        subst (λ (q : Seat). (q.0 % 256 ≡ n) × (seat_fits sizes q ≡ true)) w.1 (same_byte n h, w.0)
+    is n h f = grind (arith, nat_tests)
 
 pub office_reads : (sizes : Sizes) {xs : List ℕ} {a b : ℕ} → Piece xs a (party_bytes Office) b → F.office_field sizes xs a ≡ Ok (tt, b)
 office_reads sizes {xs} {a} {b} p = sender sizes F.office_of xs a ∙ picked_reads byte xs a _ _ tt b (byte_reads p) refl
@@ -220,7 +172,7 @@ pub office_found : (sizes : Sizes) (xs : List ℕ) → Bytes xs → (a : ℕ) (p
 office_found sizes xs bytes a p e = (byte_picked (λ n. F.office_of (party_in sizes n)) (λ q. 64) (λ q. true) xs bytes a p is (sym (sender sizes F.office_of xs a) ∙ e)).piece
   where
     is : (n : ℕ) → n < 256 → F.office_of (party_in sizes n) ≡ Some p.0 → (64 ≡ n) × (true ≡ true)
-    is n h f = (sym (eqb-true n 64 (office_by (eqb n 64) (leb 32 n) (place_in sizes (n - 32)) (seat_in sizes n) p.0 f)), refl)
+    is n h f = grind (arith, nat_tests)
 
 -- ---- view, answer
 
@@ -237,11 +189,6 @@ answer_back : (a : Answer) → answer_of (answer_number a) ≡ Some a
 answer_back Ready = refl
 answer_back Refuse = refl
 
-answer_is : (x y : Bool) (a : Answer) → cond x (Some Ready) (cond y (Some Refuse) None) ≡ Some a → ((x ≡ true) × (a ≡ Ready)) ⊎ ((y ≡ true) × (a ≡ Refuse))
-answer_is true y a e = inl (refl, cc)
-answer_is false true a e = inr (refl, cc)
-answer_is false false a e = cc
-
 pub answer_reads : {xs : List ℕ} {a : ℕ} {p : Answer × ℕ} → Piece xs a (answer_bytes p.0) p.1 → F.answer_field xs a ≡ Ok p
 answer_reads {xs} {a} {p} s = picked_reads byte xs a answer_of _ p.0 p.1 (byte_reads s) (answer_back p.0)
 
@@ -249,10 +196,7 @@ pub answer_found : (xs : List ℕ) → Bytes xs → (a : ℕ) (p : Answer × ℕ
 answer_found xs bytes a p e = (byte_picked answer_of answer_number (λ q. true) xs bytes a p is e).piece
   where
     is : (n : ℕ) → n < 256 → answer_of n ≡ Some p.0 → (answer_number p.0 ≡ n) × (true ≡ true)
-    is n h f = elim (answer_is (eqb n 1) (eqb n 0) p.0 f) [
-      | inl w ↦ (ap answer_number w.1 ∙ sym (eqb-true _ _ w.0), refl)
-      | inr w ↦ (ap answer_number w.1 ∙ sym (eqb-true _ _ w.0), refl)
-    ]
+    is n h f = grind (arith, nat_tests)
 
 -- ---- words
 
