@@ -120,5 +120,8 @@ module _ (xs : List ℕ) (bytes : Bytes xs) (a : ℕ) where
 pub two_below : (xs : List ℕ) (a : ℕ) → Bytes xs → two_at xs a < 65536
 two_below xs a h = omega (arith, h a, h (a + 1))
 
+pub four_below : (xs : List ℕ) (a : ℕ) → Bytes xs → four_at xs a < 4294967296
+four_below xs a h = omega (arith, h a, h (a + 1), h (a + 2), h (a + 3))
+
 pub eight_below : (xs : List ℕ) (a : ℕ) → Bytes xs → eight_at xs a < 2 ^ 64
 eight_below xs a h = omega (arith, h a, h (a + 1), h (a + 2), h (a + 3), h (a + 4), h (a + 5), h (a + 6), h (a + 7))

@@ -7,7 +7,7 @@ use Rattle.letters.specs.Bytes.{le2, le4, le8}
 use Rattle.reading.specs.Bind.{◌>>=◌}
 use Rattle.reading.specs.Fields.{Read, ranged, checked, sized, byte, two, four, eight}
 use Rattle.roundtrip.specs.Laws.{Bytes}
-use Rattle.roundtrip.proofs.Pieces.{Piece, at_first, byte_piece, two_piece, four_piece, eight_piece, two_at_lem, four_at_lem, eight_at_lem, two_below, eight_below}
+use Rattle.roundtrip.proofs.Pieces.{Piece, at_first, byte_piece, two_piece, four_piece, eight_piece, two_at_lem, four_at_lem, eight_at_lem, two_below, four_below, eight_below}
 
 nothing_came : {A P : Type 0} {e : Refusal} {y : A} → ◌≡◌ {A = Result A Refusal} (Err e) (Ok y) → P
 nothing_came e = cc
@@ -77,8 +77,8 @@ module _ (xs : List ℕ) (bytes : Bytes xs) (a : ℕ) (p : ℕ × ℕ) where
   pub two_found : two xs a ≡ Ok p → Piece xs a (le2 p.0) p.1 × (p.0 < 65536)
   two_found e = let c = chosen _ _ _ _ e in subst (λ q. Piece xs a (le2 q.0) q.1 × (q.0 < 65536)) c.1 (two_piece xs bytes a (leb-true _ _ c.0), two_below xs a bytes)
 
-  pub four_found : four xs a ≡ Ok p → Piece xs a (le4 p.0) p.1
-  four_found e = let c = chosen _ _ _ _ e in subst (λ q. Piece xs a (le4 q.0) q.1) c.1 (four_piece xs bytes a (leb-true _ _ c.0))
+  pub four_found : four xs a ≡ Ok p → Piece xs a (le4 p.0) p.1 × (p.0 < 4294967296)
+  four_found e = let c = chosen _ _ _ _ e in subst (λ q. Piece xs a (le4 q.0) q.1 × (q.0 < 4294967296)) c.1 (four_piece xs bytes a (leb-true _ _ c.0), four_below xs a bytes)
 
   pub eight_found : eight xs a ≡ Ok p → Piece xs a (le8 p.0) p.1 × (p.0 < 2 ^ 64)
   eight_found e = let c = chosen _ _ _ _ e in subst (λ q. Piece xs a (le8 q.0) q.1 × (q.0 < 2 ^ 64)) c.1 (eight_piece xs bytes a (leb-true _ _ c.0), eight_below xs a bytes)
@@ -91,11 +91,6 @@ picked r o xs at = do
   v ← ranged (o n) at
   Ok (v, next)
 
-abbrev pub mapped : {A : Type 0} → (List ℕ → ℕ → Read ℕ) → (ℕ → A) → List ℕ → ℕ → Read A
-mapped r f xs at = do
-  (n, next) ← r xs at
-  Ok (f n, next)
-
 module _ {A : Type 0} (r : List ℕ → ℕ → Read ℕ) (xs : List ℕ) (a : ℕ) where
   pub picked_reads : (o : ℕ → Option A) (n : ℕ) (v : A) (b : ℕ) → r xs a ≡ Ok (n, b) → o n ≡ Some v → picked r o xs a ≡ Ok (v, b)
   picked_reads o n v b e f = after (r xs a) (n, b) _ _ e (ap (λ s. ranged s a >>= (λ (x : A). Ok (x, b))) f)
@@ -106,12 +101,3 @@ module _ {A : Type 0} (r : List ℕ → ℕ → Read ℕ) (xs : List ℕ) (a : �
       let (v, e3, e4) = came (ranged (o q.0) a) _ p e2 in
       let f : (v, q.1) ≡ p = ok_same e4 in
       (q.0, e1 ∙ ap (λ (s : A × ℕ). Ok (q.0, s.1)) f, ranged_some _ a v e3 ∙ ap (λ (s : A × ℕ). Some s.0) f)
-
-  pub mapped_reads : (f : ℕ → A) (n b : ℕ) → r xs a ≡ Ok (n, b) → mapped r f xs a ≡ Ok (f n, b)
-  mapped_reads f n b e = after (r xs a) (n, b) _ _ e refl
-
-  pub mapped_found : (f : ℕ → A) (p : A × ℕ) → mapped r f xs a ≡ Ok p → (n : ℕ) × (r xs a ≡ Ok (n, p.1)) × (f n ≡ p.0)
-  mapped_found f p e =
-      let (q, e1, e2) = came (r xs a) _ p e in
-      let g : (f q.0, q.1) ≡ p = ok_same e2 in
-      (q.0, e1 ∙ ap (λ (s : A × ℕ). Ok (q.0, s.1)) g, ap (λ (s : A × ℕ). s.0) g)
