@@ -2,7 +2,8 @@
 use Rattle.std.proofs.Common.{◌≡◌, ℕ, zero, suc, ◌+◌, ◌*◌, ◌/◌, ◌%◌, ◌^◌, ◌<◌, ◌≤◌, Bool, true, false, cond, List, [], ◌∷◌, length, is_some, Some, None, Option, sym, refl, ap, ◌∙◌, ap₂, pow-suc, arith}
 use lib.Bits.{bit_and, and_step, and_zero_r}
 use lib.Count.{ones, ones_in, ones_step}
-use Rattle.std.proofs.lemmas.Bool.{and_parts, and_from, ltb-true, lt-ltb, eq-eqb, ne_eqb, eqb-true, eqb-false}
+use Rattle.std.proofs.lemmas.Bool.Decides.{nat_tests}
+use Rattle.std.proofs.lemmas.Bool.{cases_Bool, and_parts, and_from, ltb-true, lt-ltb, eq-eqb, ne_eqb, eqb-true, eqb-false}
 use Rattle.letters.specs.declared.sorts.Answer.{Answer}
 use Rattle.letters.specs.declared.sorts.Answer.TheVariants.{Ready, Refuse}
 use Rattle.letters.specs.declared.sorts.Seal.{Seal}
@@ -17,23 +18,16 @@ use Rattle.roundtrip.proofs.Pieces.{Piece, join, first_part, second_part, nothin
 -- ---- one bit and the rest
 
 pub half : (x : Bool) (m : ℕ) → (cond x 1 0 + 2 * m) / 2 ≡ m
-half true m = omega arith
-half false m = omega arith
+half x m = grind (arith, cases_Bool x)
 
 pub odd : (x : Bool) (m : ℕ) → (cond x 1 0 + 2 * m) % 2 ≡ cond x 1 0
-odd true m = omega arith
-odd false m = omega arith
+odd x m = grind (arith, cases_Bool x)
 
 lowest_bit : (x : Bool) (m : ℕ) → lowest (cond x 1 0 + 2 * m) ≡ x
-lowest_bit true m = eq-eqb _ 1 (odd true m)
-lowest_bit false m = ne_eqb _ 1 (λ e. omega (arith, odd false m, e))
+lowest_bit x m = grind (arith, nat_tests, cases_Bool x)
 
 lowest_is : (map : ℕ) → map % 2 ≡ cond (lowest map) 1 0
-lowest_is map = go (lowest map) refl
-  where
-    go : (b : Bool) → lowest map ≡ b → map % 2 ≡ cond b 1 0
-    go true e = eqb-true _ _ e
-    go false e = let h = eqb-false _ _ e in omega (arith, h)
+lowest_is map = grind (arith, nat_tests)
 
 -- one map in another: the lowest bits, and the rest
 halves : (a b : ℕ) → bit_and a b ≡ a → (bit_and (a / 2) (b / 2) ≡ a / 2) × (a % 2 ≤ b % 2)
@@ -43,8 +37,7 @@ doubled : (a b : ℕ) → bit_and (a / 2) (b / 2) ≡ a / 2 → a % 2 ≤ b % 2 
 doubled a b e h = let s = and_step a b in omega arith
 
 bit_below : (b : Bool) (m k : ℕ) → m < 2 ^ k → cond b 1 0 + 2 * m < 2 ^ suc k
-bit_below true m k h = omega (arith, pow-suc 2 k)
-bit_below false m k h = omega (arith, pow-suc 2 k)
+bit_below b m k h = grind (arith, pow-suc 2 k, cases_Bool b)
 
 pub map_below : {A : Type 0} (test : A → Bool) (rs : List A) → map_of test rs < 2 ^ length rs
 unfolding map_of
