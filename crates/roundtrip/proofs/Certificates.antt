@@ -3,6 +3,7 @@ use Rattle.std.proofs.Common.{◌≡◌, ℕ, ◌+◌, ◌*◌, ◌/◌, ◌%◌
 use lib.Bits.{bit_and}
 use lib.Count.{ones}
 use Rattle.std.proofs.lemmas.Nat.{pow_pos, div_below, mod_below, div-add-mod'}
+use Rattle.std.proofs.lemmas.Bool.Decides.{nat_tests}
 use Rattle.std.proofs.lemmas.Bool.{leb-true, le-leb, lt-ltb, ltb-true, eqb-true, eq-eqb, cond-true, and_parts, and_from}
 use Rattle.terms.specs.declared.numbers.KeyNumber.{KeyNumber}
 use Rattle.terms.specs.declared.sizes.Sizes.{Sizes}
@@ -49,9 +50,9 @@ pub record Fits (sizes : Sizes) (c : Certificate) : Type 0 where
 
 pub fits_parts : (sizes : Sizes) (c : Certificate) → certificate_fits sizes c ≡ true → Fits sizes c
 fits_parts sizes c f = record {
-  places = eqb-true _ _ a0;
-  voters = eqb-true _ _ a1;
-  low = ltb-true _ _ a2;
+  places = grind (arith, nat_tests);
+  voters = grind (arith, nat_tests);
+  low = grind (arith, nat_tests);
   inside = grind arith;
   unvoted = grind arith;
   number = grind arith;
@@ -59,25 +60,9 @@ fits_parts sizes c f = record {
   enrolments = grind arith;
   ballots = grind arith;
 }
-  where
-    a0 : eqb (length c.enrolled) 8 ≡ true
-    a0 = grind arith
-
-    a1 : eqb (length c.votes) 8 ≡ true
-    a1 = grind arith
-
-    a2 : ltb (map_of is_some c.enrolled) (2 ^ sizes.locks) ≡ true
-    a2 = grind arith
 
 pub parts_fit : (sizes : Sizes) (c : Certificate) → Fits sizes c → certificate_fits sizes c ≡ true
-parts_fit sizes c f =
-    and_from _ _ (and_from _ _ (eq-eqb _ _ f.places) (eq-eqb _ _ f.voters))
-    (and_from _ _ (lt-ltb _ _ f.low)
-    (and_from _ _ f.inside
-    (and_from _ _ f.unvoted
-    (and_from _ _ f.number
-    (and_from _ _ f.word
-    (and_from _ _ f.enrolments f.ballots))))))
+parts_fit sizes c f = grind (arith, nat_tests)
 
 -- ---- the fields
 
@@ -115,8 +100,7 @@ module _ (xs : List ℕ) (bytes : Bytes xs) (a : ℕ) where
       subst (λ (p : ℕ × ℕ). Piece xs a (p.0 ∷ []) p.1 × (p.0 < 256) × (bit_and p.0 of ≡ p.0)) (ok_same e3) (s, b, eqb-true _ _ t)
 
   flag_is : (n voted : ℕ) (x : Bool) → eqb n 1 ≡ x → (x || (eqb n 0 && eqb voted 0)) ≡ true → (n ≡ cond x 1 0) × (x ≡ false → voted ≡ 0)
-  flag_is n voted true e h = (eqb-true _ _ e, λ f. cc)
-  flag_is n voted false e h = let g = and_parts (eqb n 0) (eqb voted 0) h in (eqb-true _ _ g.0, λ f. eqb-true _ _ g.1)
+  flag_is n voted x e h = grind (arith, nat_tests)
 
   flag_found : (voted : ℕ) (p : Bool × ℕ) → flag_field voted xs a ≡ Ok p → Piece xs a (cond p.0 1 0 ∷ []) p.1 × (p.0 ≡ false → voted ≡ 0)
   flag_found voted p e =
@@ -171,8 +155,7 @@ apart c {xs} {a} {b} p =
     }
 
 none_voted : (o : Option KeyNumber) (vs : List (Option Vote)) → cancel_unvoted o vs ≡ true → o ≡ None → map_of is_some vs ≡ 0
-none_voted None vs f e = eqb-true _ _ f
-none_voted (Some n) vs f e = cc
+none_voted o vs f e = grind (arith, nat_tests)
 
 pub fields_read : (sizes : Sizes) (c : Certificate) {xs : List ℕ} {a b : ℕ} → Fits sizes c → Piece xs a (certificate_bytes c) b → certificate_fields sizes xs a ≡ Ok (tt, b)
 fields_read sizes c {xs} {a} {b} f p =
@@ -245,12 +228,10 @@ pub record Certified (sizes : Sizes) (xs : List ℕ) (a : ℕ) (p : Span × ℕ)
   pub part : p.0 ≡ span_of (certificate_bytes certificate) a
 
 flag_of_lem : (o : Option KeyNumber) → cond (is_some o) 1 0 ≡ order_flag o
-flag_of_lem None = refl
-flag_of_lem (Some n) = refl
+flag_of_lem o = grind arith
 
 unvoted_if : (o : Option KeyNumber) (vs : List (Option Vote)) → (is_some o ≡ false → map_of is_some vs ≡ 0) → cancel_unvoted o vs ≡ true
-unvoted_if None vs h = eq-eqb _ _ (h refl)
-unvoted_if (Some n) vs h = refl
+unvoted_if o vs h = grind (arith, nat_tests)
 
 -- the certificate of the fields that were found
 module _ (sizes : Sizes) (xs : List ℕ) (bytes : Bytes xs) (a b : ℕ) where
