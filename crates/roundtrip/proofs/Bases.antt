@@ -1,6 +1,7 @@
 -- A basis' bytes are read as it, and what is read as a basis has its bytes.
 use Rattle.std.proofs.Common.{◌≡◌, ℕ, ◌+◌, ◌*◌, ◌/◌, ◌^◌, ◌<◌, ◌≤◌, Bool, true, false, not, ◌&&◌, eqb, ltb, List, [], ◌∷◌, ◌++◌, length, is_some, Some, None, Ok, Option, sym, refl, ap, ◌∙◌, subst, ap₂, arith}
 use lib.Count.{ones}
+use Rattle.std.proofs.lemmas.Bool.Decides.{nat_tests}
 use Rattle.std.proofs.lemmas.Bool.{ltb-true, lt-ltb, eqb-true, eq-eqb, and_parts, and_from}
 use Rattle.terms.specs.declared.numbers.Change.{Change}
 use Rattle.terms.specs.declared.numbers.View.{View}
@@ -42,37 +43,21 @@ pub record Grounded (sizes : Sizes) (t : Change) (v : View) (b : Basis) : Type 0
 
 pub grounded : (sizes : Sizes) (t : Change) (v : View) (b : Basis) → basis_fits sizes t v b ≡ true → Grounded sizes t v b
 grounded sizes t v b f =
-    let m = map_of is_some b.assents in
-    let g1 = and_parts (ltb b.view.0 v.0) _ f in
-    let g2 = and_parts (eqb (length b.assents) 16) _ g1.1 in
-    let g3 = and_parts (ltb m (2 ^ seat_count sizes)) _ g2.1 in
-    let g4 = and_parts (eqb (ones m) (2 * sizes.faults)) _ g3.1 in
-    let g5 = and_parts (not (stands m (leader_of sizes t b.view).0)) _ g4.1 in
-    let g6 = and_parts (outcome_fits b.outcome) _ g5.1 in
-    let g7 = and_parts (is_word b.leader_seal.0) _ g6.1 in
-    let g8 = and_parts (rows_fit b.assents) (certificate_fits sizes b.certificate) g7.1 in
+    let c : certificate_fits sizes b.certificate ≡ true = grind (arith, and_parts) in
     record {
-      below = g1.0;
-      long = eqb-true _ _ g2.0;
-      low = ltb-true _ _ g3.0;
-      many = eqb-true _ _ g4.0;
-      others = g5.0;
-      outcome_fit = g6.0;
-      word = g7.0;
-      fit = g8.0;
-      certificate_fit = fits_parts sizes b.certificate g8.1;
+      below = grind arith;
+      long = grind (arith, nat_tests);
+      low = grind (arith, nat_tests);
+      many = grind (arith, nat_tests);
+      others = grind arith;
+      outcome_fit = grind arith;
+      word = grind arith;
+      fit = grind arith;
+      certificate_fit = fits_parts sizes b.certificate c;
     }
 
 pub ground_fits : (sizes : Sizes) (t : Change) (v : View) (b : Basis) → Grounded sizes t v b → basis_fits sizes t v b ≡ true
-ground_fits sizes t v b g =
-    and_from _ _ g.below
-    (and_from _ _ (eq-eqb _ _ g.long)
-    (and_from _ _ (lt-ltb _ _ g.low)
-    (and_from _ _ (eq-eqb _ _ g.many)
-    (and_from _ _ g.others
-    (and_from _ _ g.outcome_fit
-    (and_from _ _ g.word
-    (and_from _ _ g.fit (parts_fit sizes b.certificate g.certificate_fit))))))))
+ground_fits sizes t v b g = let c = parts_fit sizes b.certificate g.certificate_fit in grind (arith, nat_tests)
 
 -- ---- a basis that was written
 

@@ -99,16 +99,13 @@ module _ (xs : List ℕ) (bytes : Bytes xs) (a : ℕ) where
       let (s, b) = byte_found xs bytes a q e1 in
       subst (λ (p : ℕ × ℕ). Piece xs a (p.0 ∷ []) p.1 × (p.0 < 256) × (bit_and p.0 of ≡ p.0)) (ok_same e3) (s, b, eqb-true _ _ t)
 
-  flag_is : (n voted : ℕ) (x : Bool) → eqb n 1 ≡ x → (x || (eqb n 0 && eqb voted 0)) ≡ true → (n ≡ cond x 1 0) × (x ≡ false → voted ≡ 0)
-  flag_is n voted x e h = grind (arith, nat_tests)
-
   flag_found : (voted : ℕ) (p : Bool × ℕ) → flag_field voted xs a ≡ Ok p → Piece xs a (cond p.0 1 0 ∷ []) p.1 × (p.0 ≡ false → voted ≡ 0)
   flag_found voted p e =
       let (q, e1, e2) = came (byte xs a) _ p e in
-      let (t, e3) = passed _ a _ p e2 in
+      let (t, e3) = passed (eqb q.0 1 || (eqb q.0 0 && eqb voted 0)) a _ p e2 in
       let (s, b) = byte_found xs bytes a q e1 in
-      let (f, g) = flag_is q.0 voted (eqb q.0 1) refl t in
-      subst (λ (p : Bool × ℕ). Piece xs a (cond p.0 1 0 ∷ []) p.1 × (p.0 ≡ false → voted ≡ 0)) (ok_same e3) (subst (λ k. Piece xs a (k ∷ []) q.1) f s, g)
+      let f : q.0 ≡ cond (eqb q.0 1) 1 0 = grind (arith, nat_tests, t) in
+      subst (λ (p : Bool × ℕ). Piece xs a (cond p.0 1 0 ∷ []) p.1 × (p.0 ≡ false → voted ≡ 0)) (ok_same e3) (subst (λ k. Piece xs a (k ∷ []) q.1) f s, λ g. grind (arith, nat_tests, t, g))
 
 -- ---- a certificate that was written
 
@@ -154,9 +151,6 @@ apart c {xs} {a} {b} p =
       votes_piece = second_part (((maps c ++ number_bytes c.order.number) ++ le8 c.order.seal.0) ++ row_bytes c.enrolled) (row_bytes (vote_seals c.votes)) p;
     }
 
-none_voted : (o : Option KeyNumber) (vs : List (Option Vote)) → cancel_unvoted o vs ≡ true → o ≡ None → map_of is_some vs ≡ 0
-none_voted o vs f e = grind (arith, nat_tests)
-
 pub fields_read : (sizes : Sizes) (c : Certificate) {xs : List ℕ} {a b : ℕ} → Fits sizes c → Piece xs a (certificate_bytes c) b → certificate_fields sizes xs a ≡ Ok (tt, b)
 fields_read sizes c {xs} {a} {b} f p =
     let s = apart c p in
@@ -165,7 +159,7 @@ fields_read sizes c {xs} {a} {b} f p =
     after (enrolled_field sizes xs a) (e, a + 1) _ _ (enrolled_reads sizes s.enrolled_piece f.low)
     (after (places_field e xs (a + 1)) (v, a + 1 + 1) _ _ (places_reads e s.voted_piece (voted_within c.enrolled c.votes f.inside))
     (after (places_field v xs (a + 1 + 1)) (map_of ready_vote c.votes, a + 1 + 1 + 1) _ _ (places_reads v s.ready_piece (ready_within c.votes))
-    (after (flag_field v xs (a + 1 + 1 + 1)) (is_some c.order.number, s.a4) _ _ (flag_reads v c.order.number s.flag_piece (none_voted c.order.number c.votes f.unvoted))
+    (after (flag_field v xs (a + 1 + 1 + 1)) (is_some c.order.number, s.a4) _ _ (flag_reads v c.order.number s.flag_piece (λ e. grind (arith, nat_tests, f.unvoted, e)))
     (after (number_if (is_some c.order.number) xs s.a4) (c.order.number, s.a5) _ _ (number_if_reads c.order.number s.a5 (record { piece = s.number_piece; fit = f.number }))
     (after (seal_field xs s.a5) (c.order.seal, s.a6) _ _ (seal_reads (record { piece = s.seal_piece; fit = f.word }))
     (after (seals (ones e) xs s.a6) (tt, s.a7) _ _ (seals_reads (ones e) s.enrolments_piece (rows_length c.enrolled))
@@ -227,12 +221,6 @@ pub record Certified (sizes : Sizes) (xs : List ℕ) (a : ℕ) (p : Span × ℕ)
   pub piece : Piece xs a (certificate_bytes certificate) p.1
   pub part : p.0 ≡ span_of (certificate_bytes certificate) a
 
-flag_of_lem : (o : Option KeyNumber) → cond (is_some o) 1 0 ≡ order_flag o
-flag_of_lem o = grind arith
-
-unvoted_if : (o : Option KeyNumber) (vs : List (Option Vote)) → (is_some o ≡ false → map_of is_some vs ≡ 0) → cancel_unvoted o vs ≡ true
-unvoted_if o vs h = grind (arith, nat_tests)
-
 -- the certificate of the fields that were found
 module _ (sizes : Sizes) (xs : List ℕ) (bytes : Bytes xs) (a b : ℕ) where
   found_parts : (e v r : ℕ) (t : Bool) (n : Option KeyNumber) (z : Seal) (a1 a2 a3 a4 a5 a6 a7 : ℕ)
@@ -254,7 +242,7 @@ module _ (sizes : Sizes) (xs : List ℕ) (bytes : Bytes xs) (a b : ℕ) where
       let c = certificate_of n z es vs in
       let mv : map_of is_some vs ≡ v = votes_map r rs ∙ r8.same in
       let mr : map_of ready_vote vs ≡ r = votes_ready r rs (rw r8.same l3) in
-      let f4 : cond t 1 0 ≡ order_flag n = ap (λ x. cond x 1 0) l5 ∙ flag_of_lem n in
+      let f4 : cond t 1 0 ≡ order_flag n = grind (arith, l5) in
       let q1 = subst (λ k. Piece xs a (k ∷ []) a1) (sym r7.same) p1 in
       let q2 = subst (λ k. Piece xs a1 (k ∷ []) a2) (sym mv) p2 in
       let q3 = subst (λ k. Piece xs a2 (k ∷ []) a3) (sym mr) p3 in
@@ -267,7 +255,7 @@ module _ (sizes : Sizes) (xs : List ℕ) (bytes : Bytes xs) (a b : ℕ) where
           voters = votes_long r rs ∙ r8.long;
           low = subst (λ k. k < 2 ^ sizes.locks) (sym r7.same) l1;
           inside = votes_within_lem r es rs (rw (r8.same, r7.same) l2);
-          unvoted = unvoted_if n vs (λ x. mv ∙ l4 (l5 ∙ x));
+          unvoted = grind (arith, nat_tests, l4, l5, mv);
           number = p5.fit;
           word = p6.fit;
           enrolments = r7.fit;
