@@ -1,6 +1,7 @@
 -- A letter within range is read back from its bytes.
 use Rattle.std.proofs.Common.{◌≡◌, ℕ, ◌+◌, ◌/◌, ◌%◌, Bool, true, false, cond, not, ◌&&◌, eqb, ltb, leb, List, [], ◌∷◌, ◌++◌, length, Ok, sym, refl, ap, ◌∙◌, subst, ap₂, arith}
 use Rattle.std.proofs.lemmas.Nat.{mod_below}
+use Rattle.std.proofs.lemmas.Bool.Decides.{nat_tests}
 use Rattle.std.proofs.lemmas.Bool.{le-leb, ltb-true, lt-ltb, eqb-true, cond-true, and_parts, and_from}
 use Rattle.terms.specs.declared.numbers.Change.{Change}
 use Rattle.terms.specs.declared.numbers.Seat.{Seat}
@@ -66,11 +67,8 @@ module _ (m : ℕ) (k : Kind) (t : Change) (q : Party) {xs : List ℕ} {e : ℕ}
   sender : Piece xs 4 (party_bytes q) e
   sender = second_part (begin m k t) (party_bytes q) p
 
-exact : (k : Kind) (m : ℕ) → ltb m 8192 ≡ true → stands m 0 ≡ true → fits k m ≡ true → MapFits k m
-exact k m a b c = record { small = a; first = b; fit = c }
-
 leader_fits : (sizes : Sizes) (t : Change) (v : View) (s : Seat) → leads sizes t v s ≡ true → seat_fits sizes s ≡ true
-leader_fits sizes t v s e = let h = eqb-true _ _ e in let k = mod_below v.0 (seat_count sizes) (omega arith) in lt-ltb _ _ (omega arith)
+leader_fits sizes t v s e = let k = mod_below v.0 (seat_count sizes) (omega arith) in grind (arith, nat_tests)
 
 -- the fields of an assent or a confirm
 record ViewedRead (sizes : Sizes) (k : Kind) (t : Change) (s : Seat) (v : View) (x : Outcome) (d : Digest) (xs : List ℕ) (e : ℕ) : Type 0 where
@@ -97,13 +95,6 @@ viewed_read sizes k t s v x d {xs} {e} fs fx fd q =
       outcomes = R.outcome_reads x _ (record { piece = second_part (l ++ view_bytes v) (outcome_bytes x) h2; fit = fx });
       digests = R.digest_reads (record { piece = second_part ((l ++ view_bytes v) ++ outcome_bytes x) (le8 d.0) q; fit = fd });
     }
-
--- the leader of its view sends a proposal, with movers unless the view is 0
-view_fits : (z l : Bool) → l ≡ true → (l && cond (not z) (not z) z) ≡ true
-view_fits true true e = refl
-view_fits false true e = refl
-view_fits true false e = e
-view_fits false false e = e
 
 proposal_read : (sizes : Sizes) (t : Change) (s : Seat) (v : View) (x : Outcome) (c : Certificate) (w : SeatSet) {xs : List ℕ} {e : ℕ} → body_fits sizes t (Proposal s v x c w) ≡ true → Piece xs 0 (body_bytes t (Proposal s v x c w)) e → BodyRead sizes t (Proposal s v x c w) xs e
 proposal_read sizes t s v x c w {xs} {e} f q₀ =
@@ -133,7 +124,7 @@ proposal_read sizes t s v x c w {xs} {e} f q₀ =
       reads =
           after (F.controller_field sizes xs 4) (s, 5) _ _ (R.controller_reads sizes (record { piece = sender m K.Proposal t (Controller s) h; fit = leader_fits sizes t v s fl }))
           (after (F.view_field xs 5) (v, 6) _ _ (R.view_reads (second_part l (view_bytes v) h1))
-          (pass (proposal_view_fits sizes t v s (stands m 11)) 5 _ _ (ap (λ y. proposal_view_fits sizes t v s y) o11 ∙ view_fits z (leads sizes t v s) fl)
+          (pass (proposal_view_fits sizes t v s (stands m 11)) 5 _ _ (ap (λ y. proposal_view_fits sizes t v s y) o11 ∙ grind arith)
           (after (F.outcome_if (stands m 5) xs 6) (x, a3) _ _ (ap (λ y. F.outcome_if y xs 6) o5 ∙ R.outcome_reads x a3 (record { piece = second_part (l ++ view_bytes v) (outcome_bytes x) h2; fit = fx }))
           (after (certificate_field sizes xs a3) (span_of (certificate_bytes c) a3, a4) _ _ (certificate_reads sizes c fc' (second_part ((l ++ view_bytes v) ++ outcome_bytes x) (certificate_bytes c) h3))
           (after (F.movers_if (stands m 11) sizes xs a4) (w, e) _ _ (ap (λ y. F.movers_if y sizes xs a4) o11 ∙ movers_read v sizes w fm (second_part (((l ++ view_bytes v) ++ outcome_bytes x) ++ certificate_bytes c) (movers_bytes v w) q)) refl)))));
@@ -146,7 +137,7 @@ body_read sizes t (Enrol p) {xs} {e} f q = record {
   kind = K.Enrol;
   body = Enrol p;
   starts = start common K.Enrol t (Lock p) q;
-  fitting = exact _ _ refl refl refl;
+  fitting = (refl, refl);
   reads = after (F.lock_field sizes xs 4) (p, e) _ _ (R.lock_reads sizes (record { piece = sender common K.Enrol t (Lock p) q; fit = f })) refl;
   keeps = refl;
 }
@@ -159,7 +150,7 @@ body_read sizes t (Receipt s p) {xs} {e} f q =
       kind = K.Receipt;
       body = Receipt s p;
       starts = start m K.Receipt t (Controller s) h;
-      fitting = exact _ _ refl refl refl;
+      fitting = (refl, refl);
       reads =
           after (F.controller_field sizes xs 4) (s, 5) _ _ (R.controller_reads sizes (record { piece = sender m K.Receipt t (Controller s) h; fit = fs }))
           (after (F.place_field sizes xs 5) (p, e) _ _ (R.place_reads sizes (record { piece = second_part (head m K.Receipt t (Controller s)) (p.0 ∷ []) q; fit = fp })) refl);
@@ -193,7 +184,7 @@ body_read sizes t (Summons s n z) {xs} {e} f q =
       kind = K.Summons;
       body = Summons s n z;
       starts = start m K.Summons t (Controller s) h;
-      fitting = exact _ _ refl refl refl;
+      fitting = (refl, refl);
       reads =
           after (F.controller_field sizes xs 4) (s, 5) _ _ (R.controller_reads sizes (record { piece = sender m K.Summons t (Controller s) h; fit = fs }))
           (after (F.number_field xs 5) (n, a2) _ _ (R.number_reads (record { piece = second_part l (le4 n.0) h1; fit = fn }))
@@ -212,7 +203,7 @@ body_read sizes t (Vote p n x) {xs} {e} f q =
       kind = K.Vote;
       body = Vote p n x;
       starts = start m K.Vote t (Lock p) h;
-      fitting = exact _ _ refl refl refl;
+      fitting = (refl, refl);
       reads =
           after (F.lock_field sizes xs 4) (p, 5) _ _ (R.lock_reads sizes (record { piece = sender m K.Vote t (Lock p) h; fit = fp }))
           (after (F.number_field xs 5) (n, a2) _ _ (R.number_reads (record { piece = second_part l (le4 n.0) h1; fit = fn }))
@@ -310,7 +301,7 @@ unfolding le2
 letter_read sizes xs t b z e ft r q =
     let m = r.map in
     let k = r.kind in
-    let small = ltb-true m 8192 r.fitting.small in
+    let small = ltb-true m 8192 (and_parts _ _ r.fitting.0).0 in
     let high : m / 256 % 256 ≡ m / 256 = omega arith in
     let p1 : Piece xs 0 ((m % 256) ∷ (m / 256) ∷ []) 2 = first_part ((m % 256) ∷ (m / 256) ∷ []) (kind_number k ∷ (t.0 % 256) ∷ []) r.starts in
     let p2 : Piece xs 2 (kind_number k ∷ (t.0 % 256) ∷ []) 4 = second_part ((m % 256) ∷ (m / 256) ∷ []) (kind_number k ∷ (t.0 % 256) ∷ []) r.starts in
@@ -318,9 +309,9 @@ letter_read sizes xs t b z e ft r q =
     let p4 : Piece xs 3 ((t.0 % 256) ∷ []) 4 = second_part (kind_number k ∷ []) ((t.0 % 256) ∷ []) p2 in
     let p1' : Piece xs 0 (le2 m) 2 = subst (λ n. Piece xs 0 ((m % 256) ∷ n ∷ []) 2) (sym high) p1 in
     let w : read sizes xs ≡ Ok (letter t r.body z) =
-    after (F.map_field xs 0) (m, 2) _ _ (after (F.two xs 0) (m, 2) _ _ (two_reads p1' (omega arith)) (cond-true _ _ _ (and_from _ _ r.fitting.small r.fitting.first)))
+    after (F.map_field xs 0) (m, 2) _ _ (after (F.two xs 0) (m, 2) _ _ (two_reads p1' (omega arith)) (cond-true _ _ _ r.fitting.0))
     (after (F.kind_field xs 2) (k, 3) _ _ (R.kind_reads k p3)
-    (after (fit k m) tt _ _ (cond-true (fits k m) _ _ r.fitting.fit)
+    (after (fit k m) tt _ _ (cond-true (fits k m) _ _ r.fitting.1)
     (after (F.change_field xs 3) (t, 4) _ _ (R.change_reads (record { piece = p4; fit = ft }))
     (after (body_field sizes t m k xs 4) (r.body, e) _ _ r.reads
     (after (F.seal_field xs e) (z, length xs) _ _ (R.seal_reads q)

@@ -3,6 +3,7 @@ use Rattle.std.proofs.Common.{◌≡◌, ℕ, zero, suc, ◌+◌, ◌*◌, ◌/�
 use lib.Bits.{bit_and}
 use lib.Count.{ones}
 use Rattle.std.proofs.lemmas.Nat.{and_mod, and_shr, and_mask}
+use Rattle.std.proofs.lemmas.Bool.Decides.{nat_tests}
 use Rattle.std.proofs.lemmas.Bool.{ltb-true, lt-ltb, eqb-true, eqb-false, eq-eqb, and_parts, and_from, or_cases}
 use Rattle.terms.specs.declared.numbers.KeyNumber.{KeyNumber}
 use Rattle.terms.specs.declared.numbers.View.{View}
@@ -26,37 +27,29 @@ use Rattle.roundtrip.proofs.Certificates.{map_low, low_map}
 use Rattle.roundtrip.proofs.Bases.{numbered_in}
 
 -- a map that fits its kind
-pub record MapFits (k : Kind) (m : ℕ) : Type 0 where
-  pub small : ltb m 8192 ≡ true
-  pub first : stands m 0 ≡ true
-  pub fit : fits k m ≡ true
+abbrev pub MapFits : Kind → ℕ → Type 0
+MapFits k m = ((ltb m 8192 && stands m 0) ≡ true) × (fits k m ≡ true)
 
 abbrev pub order_map : Option KeyNumber → ℕ
 order_map n = common + number_bit n
 
 pub order_fits_lem : (n : Option KeyNumber) → MapFits K.Order (order_map n) × MapFits K.Result (order_map n) × (stands (order_map n) 5 ≡ is_some n)
-order_fits_lem None = (record { small = refl; first = refl; fit = refl }, record { small = refl; first = refl; fit = refl }, refl)
-order_fits_lem (Some n) = (record { small = refl; first = refl; fit = refl }, record { small = refl; first = refl; fit = refl }, refl)
+order_fits_lem n = grind arith
 
 abbrev pub viewed_map : Option KeyNumber → ℕ
 viewed_map n = common + bit 4 + number_bit n + bit 7
 
 pub viewed_fits : (n : Option KeyNumber) → MapFits K.Assent (viewed_map n) × MapFits K.Confirm (viewed_map n) × (stands (viewed_map n) 5 ≡ is_some n)
-viewed_fits None = (record { small = refl; first = refl; fit = refl }, record { small = refl; first = refl; fit = refl }, refl)
-viewed_fits (Some n) = (record { small = refl; first = refl; fit = refl }, record { small = refl; first = refl; fit = refl }, refl)
+viewed_fits n = grind arith
 
 abbrev pub proposal_map : Option KeyNumber → Bool → ℕ
 proposal_map n moved = common + bit 4 + number_bit n + bit 10 + cond moved (bit 11) 0
 
 pub proposal_fits : (n : Option KeyNumber) (moved : Bool) → MapFits K.Proposal (proposal_map n moved) × (stands (proposal_map n moved) 5 ≡ is_some n) × (stands (proposal_map n moved) 11 ≡ moved)
-proposal_fits None true = (record { small = refl; first = refl; fit = refl }, refl, refl)
-proposal_fits None false = (record { small = refl; first = refl; fit = refl }, refl, refl)
-proposal_fits (Some n) true = (record { small = refl; first = refl; fit = refl }, refl, refl)
-proposal_fits (Some n) false = (record { small = refl; first = refl; fit = refl }, refl, refl)
+proposal_fits n moved = grind arith
 
 pub movers_bit_lem : (x : Bool) → cond x 0 (bit 11) ≡ cond (not x) (bit 11) 0
-movers_bit_lem true = refl
-movers_bit_lem false = refl
+movers_bit_lem x = grind arith
 
 -- by the number of its outcome, of a move's grounds
 abbrev pub grounds_map : Option (Option KeyNumber) → ℕ
@@ -68,9 +61,9 @@ flag_of None = false
 flag_of (Some n) = is_some n
 
 move_by : (g : Option (Option KeyNumber)) → MapFits K.Move (grounds_map g) × (stands (grounds_map g) 9 ≡ is_some g) × (stands (grounds_map g) 5 ≡ flag_of g)
-move_by None = (record { small = refl; first = refl; fit = refl }, refl, refl)
-move_by (Some None) = (record { small = refl; first = refl; fit = refl }, refl, refl)
-move_by (Some (Some n)) = (record { small = refl; first = refl; fit = refl }, refl, refl)
+move_by None = ((refl, refl), refl, refl)
+move_by (Some None) = ((refl, refl), refl, refl)
+move_by (Some (Some n)) = ((refl, refl), refl, refl)
 
 pub move_fits : (b : Option Basis) → MapFits K.Move (move_map b) × (stands (move_map b) 9 ≡ is_some b) × (stands (move_map b) 5 ≡ numbered_in b)
 move_fits None = move_by None
@@ -126,8 +119,7 @@ without_number m c h e z =
     omega arith
 
 bit_is : (n : Option KeyNumber) (k : ℕ) → k % 2 ≡ k → eqb k 1 ≡ is_some n → k * 32 ≡ number_bit n
-bit_is None k h e = let f = eqb-false k 1 e in omega (arith, f)
-bit_is (Some n) k h e = let f = eqb-true k 1 e in omega arith
+bit_is n k h e = grind (arith, nat_tests)
 
 numbered_map : (m c : ℕ) (n : Option KeyNumber) → ltb m 8192 ≡ true → eqb (bit_and m 65503) c ≡ true → c / 32 % 2 ≡ 0 → stands m 5 ≡ is_some n → m ≡ c + number_bit n
 numbered_map m c n h e z s = without_number m c (ltb-true _ _ h) (eqb-true _ _ e) z ∙ ap (λ x. c + x) (bit_is n (m / 32 % 2) (omega arith) s)
@@ -151,8 +143,7 @@ without_both m h e =
     omega arith
 
 movers_is : (x : Bool) (k : ℕ) → k % 2 ≡ k → eqb k 1 ≡ not x → k * 2048 ≡ cond x 0 (bit 11)
-movers_is true k h e = let f = eqb-false k 1 e in omega (arith, f)
-movers_is false k h e = let f = eqb-true k 1 e in omega arith
+movers_is x k h e = grind (arith, nat_tests)
 
 pub proposal_map_lem : (m : ℕ) (n : Option KeyNumber) (x : Bool) → ltb m 8192 ≡ true → fits K.Proposal m ≡ true → stands m 5 ≡ is_some n → stands m 11 ≡ not x → m ≡ common + bit 4 + number_bit n + bit 10 + cond x 0 (bit 11)
 proposal_map_lem m n x h e s t =
@@ -161,15 +152,10 @@ proposal_map_lem m n x h e s t =
     let q = movers_is x (m / 2048 % 2) (omega arith) t in
     omega arith
 
-with_basis : (m k : ℕ) → k < 2 → m ≡ based + k * 32 → m / 512 % 2 ≡ 1
-with_basis m zero h e = ap (λ x. x / 512 % 2) e
-with_basis m (suc zero) h e = ap (λ x. x / 512 % 2) e
-with_basis m (suc (suc k)) h e = absurd (omega arith)
-
 pub move_map_lem : (m : ℕ) (b : Option Basis) → ltb m 8192 ≡ true → fits K.Move m ≡ true → stands m 9 ≡ is_some b → (stands m 9 ≡ true → stands m 5 ≡ numbered_in b) → m ≡ move_map b
 move_map_lem m None h e s n = elim (or_cases (eqb m (common + bit 4)) _ e) [
   | inl f ↦ eqb-true _ _ f
-  | inr f ↦ (let r = without_number m based (ltb-true _ _ h) (eqb-true _ _ f) refl in let z = eqb-false (m / 512 % 2) 1 s in absurd (z (with_basis m (m / 32 % 2) (omega arith) r)))
+  | inr f ↦ (let r = without_number m based (ltb-true _ _ h) (eqb-true _ _ f) refl in grind (arith, nat_tests, s))
 ]
 move_map_lem m (Some b) h e s n = elim (or_cases (eqb m (common + bit 4)) _ e) [
   | inl f ↦ (let r : m ≡ common + bit 4 = eqb-true _ _ f in let z = eqb-true (m / 512 % 2) 1 s in absurd (omega arith))

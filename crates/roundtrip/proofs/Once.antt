@@ -39,11 +39,7 @@ no_certificate : (c : Span) → ◌≡◌ {A = Option Span} None (Some c) → ce
 no_certificate c e = cc
 
 moved_is : (l moved z : Bool) → (l && cond moved (not z) z) ≡ true → (l ≡ true) × (moved ≡ not z)
-moved_is true true true e = (refl, sym e)
-moved_is true true false e = (refl, refl)
-moved_is true false true e = (refl, refl)
-moved_is true false false e = (refl, e)
-moved_is false moved z e = cc
+moved_is l moved z e = grind arith
 
 module _ (sizes : Sizes) (t : Change) (m : ℕ) (xs : List ℕ) (bytes : Bytes xs) (small : ltb m 8192 ≡ true) (o : ℕ) (p : Body Span Spans × ℕ) where
   -- what every letter begins with, by its own map
