@@ -51,23 +51,8 @@ proposal_fits n moved = grind arith
 pub movers_bit_lem : (x : Bool) → cond x 0 (bit 11) ≡ cond (not x) (bit 11) 0
 movers_bit_lem x = grind arith
 
--- by the number of its outcome, of a move's grounds
-abbrev pub grounds_map : Option (Option KeyNumber) → ℕ
-grounds_map None = common + bit 4
-grounds_map (Some n) = common + bit 4 + number_bit n + bit 9 + bit 10
-
-abbrev flag_of : Option (Option KeyNumber) → Bool
-flag_of None = false
-flag_of (Some n) = is_some n
-
-move_by : (g : Option (Option KeyNumber)) → MapFits K.Move (grounds_map g) × (stands (grounds_map g) 9 ≡ is_some g) × (stands (grounds_map g) 5 ≡ flag_of g)
-move_by None = ((refl, refl), refl, refl)
-move_by (Some None) = ((refl, refl), refl, refl)
-move_by (Some (Some n)) = ((refl, refl), refl, refl)
-
 pub move_fits : (b : Option Basis) → MapFits K.Move (move_map b) × (stands (move_map b) 9 ≡ is_some b) × (stands (move_map b) 5 ≡ numbered_in b)
-move_fits None = move_by None
-move_fits (Some b) = move_by (Some (outcome_number b.outcome))
+move_fits b = grind arith
 
 -- ---- movers
 
@@ -142,14 +127,11 @@ without_both m h e =
     let high₁ : proposed / 4096 ≡ m / 4096 % 16 = ap (λ x. x / 4096) (sym e) ∙ high in
     omega arith
 
-movers_is : (x : Bool) (k : ℕ) → k % 2 ≡ k → eqb k 1 ≡ not x → k * 2048 ≡ cond x 0 (bit 11)
-movers_is x k h e = grind (arith, nat_tests)
-
 pub proposal_map_lem : (m : ℕ) (n : Option KeyNumber) (x : Bool) → ltb m 8192 ≡ true → fits K.Proposal m ≡ true → stands m 5 ≡ is_some n → stands m 11 ≡ not x → m ≡ common + bit 4 + number_bit n + bit 10 + cond x 0 (bit 11)
 proposal_map_lem m n x h e s t =
     let r = without_both m (ltb-true _ _ h) (eqb-true _ _ e) in
     let p = bit_is n (m / 32 % 2) (omega arith) s in
-    let q = movers_is x (m / 2048 % 2) (omega arith) t in
+    let q : m / 2048 % 2 * 2048 ≡ cond x 0 (bit 11) = grind (arith, nat_tests, t) in
     omega arith
 
 pub move_map_lem : (m : ℕ) (b : Option Basis) → ltb m 8192 ≡ true → fits K.Move m ≡ true → stands m 9 ≡ is_some b → (stands m 9 ≡ true → stands m 5 ≡ numbered_in b) → m ≡ move_map b
