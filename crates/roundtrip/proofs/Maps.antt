@@ -96,12 +96,7 @@ based = common + bit 4 + bit 9 + bit 10
 
 -- a map is known, but for its number's bit
 without_number : (m c : ℕ) → m < 8192 → bit_and m 65503 ≡ c → c / 32 % 2 ≡ 0 → m ≡ c + m / 32 % 2 * 32
-without_number m c h e z =
-    let low : bit_and m 65503 % 32 ≡ m % 32 % 32 = and_mod m 65503 5 ∙ and_mask (m % 32) 5 in
-    let high : bit_and m 65503 / 64 ≡ m / 64 % 1024 = and_shr m 65503 6 ∙ and_mask (m / 64) 10 in
-    let low' : c % 32 ≡ m % 32 % 32 = ap (λ x. x % 32) (sym e) ∙ low in
-    let high' : c / 64 ≡ m / 64 % 1024 = ap (λ x. x / 64) (sym e) ∙ high in
-    omega arith
+without_number m c h e z = omega (arith, and_mod m 65503 5, and_mask (m % 32) 5, and_shr m 65503 6, and_mask (m / 64) 10)
 
 bit_is : (n : Option KeyNumber) (k : ℕ) → k % 2 ≡ k → eqb k 1 ≡ is_some n → k * 32 ≡ number_bit n
 bit_is n k h e = grind (arith, nat_tests)
@@ -117,15 +112,7 @@ viewed_map_lem m n h e s = let r = numbered_map m (common + bit 4 + bit 7) n h e
 
 -- the same, but for the movers' bit too
 without_both : (m : ℕ) → m < 8192 → bit_and m 63455 ≡ proposed → m ≡ proposed + m / 32 % 2 * 32 + m / 2048 % 2 * 2048
-without_both m h e =
-    let low : bit_and m 63455 % 32 ≡ m % 32 % 32 = and_mod m 63455 5 ∙ and_mask (m % 32) 5 in
-    let mid : bit_and (m / 64) 991 % 32 ≡ m / 64 % 32 % 32 = and_mod (m / 64) 991 5 ∙ and_mask (m / 64 % 32) 5 in
-    let mid' : bit_and m 63455 / 64 ≡ bit_and (m / 64) 991 = and_shr m 63455 6 in
-    let high : bit_and m 63455 / 4096 ≡ m / 4096 % 16 = and_shr m 63455 12 ∙ and_mask (m / 4096) 4 in
-    let low₁ : proposed % 32 ≡ m % 32 % 32 = ap (λ x. x % 32) (sym e) ∙ low in
-    let mid₁ : proposed / 64 % 32 ≡ m / 64 % 32 % 32 = ap (λ x. x / 64 % 32) (sym e) ∙ (ap (λ x. x % 32) mid' ∙ mid) in
-    let high₁ : proposed / 4096 ≡ m / 4096 % 16 = ap (λ x. x / 4096) (sym e) ∙ high in
-    omega arith
+without_both m h e = omega (arith, and_mod m 63455 5, and_mask (m % 32) 5, and_mod (m / 64) 991 5, and_mask (m / 64 % 32) 5, and_shr m 63455 6, and_shr m 63455 12, and_mask (m / 4096) 4)
 
 pub proposal_map_lem : (m : ℕ) (n : Option KeyNumber) (x : Bool) → ltb m 8192 ≡ true → fits K.Proposal m ≡ true → stands m 5 ≡ is_some n → stands m 11 ≡ not x → m ≡ common + bit 4 + number_bit n + bit 10 + cond x 0 (bit 11)
 proposal_map_lem m n x h e s t =
