@@ -1,6 +1,7 @@
 -- From the bytes of a statement back to the statement: its numbers, and a left inverse by kind.
 use Rattle.std.proofs.Common.{◌≡◌, ℕ, ◌+◌, ◌-◌, ◌/◌, ◌%◌, ◌^◌, ◌<◌, true, cond, eqb, ltb, leb, List, [], ◌∷◌, get_or, Some, None, fold, Option, sym, refl, ap, ◌∙◌, arith}
 use Rattle.std.proofs.lemmas.Nat.{mod_below, pow_pos}
+use Rattle.std.proofs.lemmas.Bool.Decides.{nat_tests}
 use Rattle.std.proofs.lemmas.Bool.{leb-true, ltb-true, eqb-true}
 use Rattle.terms.specs.declared.numbers.Change.{Change}
 use Rattle.terms.specs.declared.numbers.KeyNumber.{KeyNumber}
@@ -90,27 +91,7 @@ add_sub : (n : ℕ) → 32 + n - 32 ≡ n
 add_sub n = omega arith
 
 back : (t : Change) (b : Body Digest Brief) → from (numbers (statement_of t b)) ≡ statement_of t b
-back t (Enrol p) = ap (λ n. statement_of t (Enrol (place n))) (add_sub p.0)
-back t (Receipt s p) = refl
-back t (Order None) = refl
-back t (Order (Some n)) = refl
-back t (Summons s n z) = refl
-back t (Vote p n Ready) = ap (λ m. statement_of t (Vote (place m) n Ready)) (add_sub p.0)
-back t (Vote p n Refuse) = ap (λ m. statement_of t (Vote (place m) n Refuse)) (add_sub p.0)
-back t (Proposal s v Keep d m) = refl
-back t (Proposal s v (Number n) d m) = refl
-back t (Assent s v Keep d) = refl
-back t (Assent s v (Number n) d) = refl
-back t (Confirm s v Keep d) = refl
-back t (Confirm s v (Number n) d) = refl
-back t (Result s Keep) = refl
-back t (Result s (Number n)) = refl
-back t (Move s v None) = refl
-back t (Move s v (Some b)) = move_back t s v b.view b.outcome b.digest
-  where
-    move_back : (t : Change) (s : _) (v u : View) (x : Outcome) (d : Digest) → from (numbers (statement_of t (Move s v (Some (record { view = u; outcome = x; digest = d }))))) ≡ statement_of t (Move s v (Some (record { view = u; outcome = x; digest = d })))
-    move_back t s v u Keep d = refl
-    move_back t s v u (Number n) d = refl
+back t b = grind arith
 
 -- what a party may say: what a letter says, or a vote on an order, which may be a cancel
 pub data Said : Statement → Type 0 where
@@ -118,9 +99,7 @@ pub data Said : Statement → Type 0 where
   in-vote : (t : Change) (p : Place) (n : Option KeyNumber) (a : Answer) → Said (vote_statement t p n a)
 
 vote_back : (t : Change) (p : Place) (n : Option KeyNumber) (a : Answer) → from (numbers (vote_statement t p n a)) ≡ vote_statement t p n a
-vote_back t p (Some n) a = back t (Vote p n a)
-vote_back t p None Ready = ap (λ m. vote_statement t (place m) None Ready) (add_sub p.0)
-vote_back t p None Refuse = ap (λ m. vote_statement t (place m) None Refuse) (add_sub p.0)
+vote_back t p n a = grind arith
 
 said_back : {s : Statement} → Said s → from (numbers s) ≡ s
 said_back (in-letter t b) = back t b
@@ -176,44 +155,12 @@ leader_below sizes t v s e = let h = eqb-true _ _ e in let k = mod_below v.0 (se
 
 -- the numbers of a letter's statement are small, kind by kind
 pub small : (sizes : Sizes) (t : Change) (b : Body Certificate Basis) → t.0 < 256 → body_fits sizes t b ≡ true → Small (statement_of t (in_brief b))
-small sizes t (Enrol p) h f = record { change = h; sender = place_below sizes p f; number = omega arith; digest = omega arith }
-small sizes t (Receipt s p) h f =
-    let q : seat_fits sizes s ≡ true = grind arith in
-    record { change = h; sender = seat_below sizes s q; number = omega arith; digest = omega arith }
-small sizes t (Order n) h f = record { change = h; sender = omega arith; number = number_below n f; digest = omega arith }
-small sizes t (Summons s n z) h f =
-    let q : seat_fits sizes s ≡ true = grind arith in
-    let k : number_fits (Some n) ≡ true = grind arith in
-    record { change = h; sender = seat_below sizes s q; number = number_below (Some n) k; digest = omega arith }
-small sizes t (Vote p n a) h f =
-    let q : place_fits sizes p ≡ true = grind arith in
-    let k : number_fits (Some n) ≡ true = grind arith in
-    record { change = h; sender = place_below sizes p q; number = number_below (Some n) k; digest = omega arith }
-small sizes t (Proposal s v x c m) h f =
-    let q : leads sizes t v s ≡ true = grind arith in
-    let k : number_fits (outcome_number x) ≡ true = grind arith in
-    record { change = h; sender = leader_below sizes t v s q; number = number_below (outcome_number x) k; digest = digest_below c }
-small sizes t (Assent s v x d) h f =
-    let q : seat_fits sizes s ≡ true = grind arith in
-    let k : number_fits (outcome_number x) ≡ true = grind arith in
-    let w : is_word d.0 ≡ true = grind arith in
-    record { change = h; sender = seat_below sizes s q; number = number_below (outcome_number x) k; digest = ltb-true _ _ w }
-small sizes t (Confirm s v x d) h f =
-    let q : seat_fits sizes s ≡ true = grind arith in
-    let k : number_fits (outcome_number x) ≡ true = grind arith in
-    let w : is_word d.0 ≡ true = grind arith in
-    record { change = h; sender = seat_below sizes s q; number = number_below (outcome_number x) k; digest = ltb-true _ _ w }
-small sizes t (Result s x) h f =
-    let q : seat_fits sizes s ≡ true = grind arith in
-    let k : number_fits (outcome_number x) ≡ true = grind arith in
-    record { change = h; sender = seat_below sizes s q; number = number_below (outcome_number x) k; digest = omega arith }
-small sizes t (Move s v None) h f =
-    let q : seat_fits sizes s ≡ true = grind arith in
-    record { change = h; sender = seat_below sizes s q; number = omega arith; digest = omega arith }
-small sizes t (Move s v (Some b)) h f =
-    let q : seat_fits sizes s ≡ true = grind arith in
-    let k : number_fits (outcome_number b.outcome) ≡ true = grind arith in
-    record { change = h; sender = seat_below sizes s q; number = number_below (outcome_number b.outcome) k; digest = digest_below b.certificate }
+small sizes t b h f = record {
+  change = grind arith;
+  sender = grind (arith, nat_tests, mod_below);
+  number = grind (arith, nat_tests);
+  digest = grind (arith, nat_tests, digest_below);
+}
 
 small_letter : (sizes : Sizes) (l : Letter Certificate Basis) → letter_fits sizes l ≡ true → Small (statement l)
 small_letter sizes l f =
