@@ -31,7 +31,7 @@ use Rattle.reading.specs.Fields as F
 use Rattle.reading.specs.Fields.{Read, ranged, byte, four, eight}
 use Rattle.roundtrip.specs.Laws.{Bytes}
 use Rattle.roundtrip.proofs.Pieces.{Piece, nothing}
-use Rattle.roundtrip.proofs.Steps.{after, came, ok_same, within_some, picked, picked_reads, picked_found, byte_reads, four_reads, eight_reads, byte_found, four_found, eight_found}
+use Rattle.roundtrip.proofs.Steps.{after, came, ok_same, picked, picked_reads, picked_found, byte_reads, four_reads, eight_reads, byte_found, four_found, eight_found}
 
 -- a value within range, whose bytes stand at `a` up to the offset beside it
 pub record Stands {A : Type 0} (bytes : A → List ℕ) (fits : A → Bool) (xs : List ℕ) (a : ℕ) (p : A × ℕ) : Type 0 where
@@ -57,9 +57,6 @@ view_bytes v = v.0 ∷ []
 
 abbrev pub answer_bytes : Answer → List ℕ
 answer_bytes a = answer_number a ∷ []
-
-same_byte : (n : ℕ) → n < 256 → n % 256 ≡ n
-same_byte n h = omega arith
 
 -- ---- kind
 

@@ -46,8 +46,8 @@ module _ (sizes : Sizes) (t : Change) (m : ℕ) (xs : List ℕ) (bytes : Bytes x
   starts : (k : Kind) (n : ℕ) → m ≡ n → Piece xs 0 (begin m k t) o → Piece xs 0 (begin n k t) o
   starts k n e q = subst (λ x. Piece xs 0 (begin x k t) o) e q
 
-  enrol_found : Piece xs 0 (begin m K.Enrol t) o → fits K.Enrol m ≡ true → body_field sizes t m K.Enrol xs o ≡ Ok p → BodyFound sizes t xs p
-  enrol_found b f e =
+  body_found : (k : Kind) → Piece xs 0 (begin m k t) o → fits k m ≡ true → body_field sizes t m k xs o ≡ Ok p → BodyFound sizes t xs p
+  body_found K.Enrol b f e =
       step (F.lock_field sizes xs o) _ p e (λ q1 e1 d1.
       let s1 = R.lock_found sizes xs bytes o q1 e1 in
       subst (BodyFound sizes t xs) (ok_same d1) (record {
@@ -55,9 +55,7 @@ module _ (sizes : Sizes) (t : Change) (m : ℕ) (xs : List ℕ) (bytes : Bytes x
         fit = s1.fit;
         same = no_certificate;
       }))
-
-  receipt_found : Piece xs 0 (begin m K.Receipt t) o → fits K.Receipt m ≡ true → body_field sizes t m K.Receipt xs o ≡ Ok p → BodyFound sizes t xs p
-  receipt_found b f e =
+  body_found K.Receipt b f e =
       step (F.controller_field sizes xs o) _ p e (λ q1 e1 d1.
       step (F.place_field sizes xs q1.1) _ p d1 (λ q2 e2 d2.
       let s1 = R.controller_found sizes xs bytes o q1 e1 in
@@ -67,9 +65,7 @@ module _ (sizes : Sizes) (t : Change) (m : ℕ) (xs : List ℕ) (bytes : Bytes x
         fit = and_from _ _ s1.fit s2.fit;
         same = no_certificate;
       })))
-
-  order_found : Piece xs 0 (begin m K.Order t) o → fits K.Order m ≡ true → body_field sizes t m K.Order xs o ≡ Ok p → BodyFound sizes t xs p
-  order_found b f e =
+  body_found K.Order b f e =
       step (F.office_field sizes xs o) _ p e (λ q1 e1 d1.
       step (F.number_if (stands m 5) xs q1.1) _ p d1 (λ q2 e2 d2.
       let s1 = R.office_found sizes xs bytes o q1 e1 in
@@ -79,9 +75,7 @@ module _ (sizes : Sizes) (t : Change) (m : ℕ) (xs : List ℕ) (bytes : Bytes x
         fit = s2.0.fit;
         same = no_certificate;
       })))
-
-  summons_found : Piece xs 0 (begin m K.Summons t) o → fits K.Summons m ≡ true → body_field sizes t m K.Summons xs o ≡ Ok p → BodyFound sizes t xs p
-  summons_found b f e =
+  body_found K.Summons b f e =
       step (F.controller_field sizes xs o) _ p e (λ q1 e1 d1.
       step (F.number_field xs q1.1) _ p d1 (λ q2 e2 d2.
       step (F.seal_field xs q2.1) _ p d2 (λ q3 e3 d3.
@@ -93,9 +87,7 @@ module _ (sizes : Sizes) (t : Change) (m : ℕ) (xs : List ℕ) (bytes : Bytes x
         fit = and_from _ _ s1.fit (and_from _ _ s2.fit s3.fit);
         same = no_certificate;
       }))))
-
-  vote_found : Piece xs 0 (begin m K.Vote t) o → fits K.Vote m ≡ true → body_field sizes t m K.Vote xs o ≡ Ok p → BodyFound sizes t xs p
-  vote_found b f e =
+  body_found K.Vote b f e =
       step (F.lock_field sizes xs o) _ p e (λ q1 e1 d1.
       step (F.number_field xs q1.1) _ p d1 (λ q2 e2 d2.
       step (F.answer_field xs q2.1) _ p d2 (λ q3 e3 d3.
@@ -107,9 +99,7 @@ module _ (sizes : Sizes) (t : Change) (m : ℕ) (xs : List ℕ) (bytes : Bytes x
         fit = and_from _ _ s1.fit s2.fit;
         same = no_certificate;
       }))))
-
-  proposal_found : Piece xs 0 (begin m K.Proposal t) o → fits K.Proposal m ≡ true → body_field sizes t m K.Proposal xs o ≡ Ok p → BodyFound sizes t xs p
-  proposal_found b f e =
+  body_found K.Proposal b f e =
       step (F.controller_field sizes xs o) _ p e (λ q1 e1 d1.
       step (F.view_field xs q1.1) _ p d1 (λ q2 e2 d2.
       let (v2, d2') = passed (proposal_view_fits sizes t q2.0 q1.0 (stands m 11)) q1.1 _ p d2 in
@@ -131,9 +121,7 @@ module _ (sizes : Sizes) (t : Change) (m : ℕ) (xs : List ℕ) (bytes : Bytes x
         fit = and_from _ _ s2.fit (and_from _ _ l (and_from _ _ s3.0.fit (and_from _ _ f4 s5.1)));
         same = λ c g. same_certificate sizes xs q3.1 q4 s4 c g;
       }))))))
-
-  assent_found : Piece xs 0 (begin m K.Assent t) o → fits K.Assent m ≡ true → body_field sizes t m K.Assent xs o ≡ Ok p → BodyFound sizes t xs p
-  assent_found b f e =
+  body_found K.Assent b f e =
       step (F.controller_field sizes xs o) _ p e (λ q1 e1 d1.
       step (F.view_field xs q1.1) _ p d1 (λ q2 e2 d2.
       let (v2, d2') = passed (not (leads sizes t q2.0 q1.0)) q1.1 _ p d2 in
@@ -149,9 +137,7 @@ module _ (sizes : Sizes) (t : Change) (m : ℕ) (xs : List ℕ) (bytes : Bytes x
         fit = and_from _ _ s1.fit (and_from _ _ s2.fit (and_from _ _ v2 (and_from _ _ s3.0.fit s4.fit)));
         same = no_certificate;
       })))))
-
-  confirm_found : Piece xs 0 (begin m K.Confirm t) o → fits K.Confirm m ≡ true → body_field sizes t m K.Confirm xs o ≡ Ok p → BodyFound sizes t xs p
-  confirm_found b f e =
+  body_found K.Confirm b f e =
       step (F.controller_field sizes xs o) _ p e (λ q1 e1 d1.
       step (F.view_field xs q1.1) _ p d1 (λ q2 e2 d2.
       step (F.outcome_if (stands m 5) xs q2.1) _ p d2 (λ q3 e3 d3.
@@ -166,9 +152,7 @@ module _ (sizes : Sizes) (t : Change) (m : ℕ) (xs : List ℕ) (bytes : Bytes x
         fit = and_from _ _ s1.fit (and_from _ _ s2.fit (and_from _ _ s3.0.fit s4.fit));
         same = no_certificate;
       })))))
-
-  result_found : Piece xs 0 (begin m K.Result t) o → fits K.Result m ≡ true → body_field sizes t m K.Result xs o ≡ Ok p → BodyFound sizes t xs p
-  result_found b f e =
+  body_found K.Result b f e =
       step (F.controller_field sizes xs o) _ p e (λ q1 e1 d1.
       step (F.outcome_if (stands m 5) xs q1.1) _ p d1 (λ q2 e2 d2.
       let s1 = R.controller_found sizes xs bytes o q1 e1 in
@@ -178,9 +162,7 @@ module _ (sizes : Sizes) (t : Change) (m : ℕ) (xs : List ℕ) (bytes : Bytes x
         fit = and_from _ _ s1.fit s2.0.fit;
         same = no_certificate;
       })))
-
-  move_found : Piece xs 0 (begin m K.Move t) o → fits K.Move m ≡ true → body_field sizes t m K.Move xs o ≡ Ok p → BodyFound sizes t xs p
-  move_found b f e =
+  body_found K.Move b f e =
       step (F.controller_field sizes xs o) _ p e (λ q1 e1 d1.
       step (F.view_field xs q1.1) _ p d1 (λ q2 e2 d2.
       let (v2, d2') = passed (not (eqb q2.0.0 0)) q1.1 _ p d2 in
@@ -194,18 +176,6 @@ module _ (sizes : Sizes) (t : Change) (m : ℕ) (xs : List ℕ) (bytes : Bytes x
         fit = and_from _ _ s1.fit (and_from _ _ s2.fit (and_from _ _ v2 s3.fit));
         same = s3.same;
       }))))
-
-  body_found : (k : Kind) → Piece xs 0 (begin m k t) o → fits k m ≡ true → body_field sizes t m k xs o ≡ Ok p → BodyFound sizes t xs p
-  body_found K.Enrol b f e = enrol_found b f e
-  body_found K.Receipt b f e = receipt_found b f e
-  body_found K.Order b f e = order_found b f e
-  body_found K.Summons b f e = summons_found b f e
-  body_found K.Vote b f e = vote_found b f e
-  body_found K.Proposal b f e = proposal_found b f e
-  body_found K.Assent b f e = assent_found b f e
-  body_found K.Confirm b f e = confirm_found b f e
-  body_found K.Result b f e = result_found b f e
-  body_found K.Move b f e = move_found b f e
 
 -- ---- the whole letter
 

@@ -46,10 +46,6 @@ pub ranged_some : {A : Type 0} (o : Option A) (at : ℕ) (x : A) → ranged o at
 ranged_some (Some v) at x e = ap Some (ok_same e)
 ranged_some None at x e = nothing_came e
 
-pub within_some : {A : Type 0} (t : Bool) (x y : A) → within t x ≡ Some y → (t ≡ true) × (x ≡ y)
-within_some true x y e = (refl, cc)
-within_some false x y e = cc
-
 -- ---- numbers
 
 pub sized_reads : (n v : ℕ) (xs : List ℕ) (a w b : ℕ) → b ≡ a + n → b ≤ length xs → v ≡ w → sized n v xs a ≡ Ok (w, b)

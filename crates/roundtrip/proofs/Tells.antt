@@ -87,9 +87,6 @@ from f =
     (cond (ltb f.flags 4) (made f K.Move (controller f) None (Some (view_of f.view)) None None None)
     (made f K.Move (controller f) None (Some (view_of f.view)) None (Some (view_of f.basis)) (Some (digest f.digest))))))))))))
 
-add_sub : (n : ℕ) → 32 + n - 32 ≡ n
-add_sub n = omega arith
-
 back : (t : Change) (b : Body Digest Brief) → from (numbers (statement_of t b)) ≡ statement_of t b
 back t b = grind arith
 
@@ -98,12 +95,9 @@ pub data Said : Statement → Type 0 where
   in-letter : (t : Change) (b : Body Digest Brief) → Said (statement_of t b)
   in-vote : (t : Change) (p : Place) (n : Option KeyNumber) (a : Answer) → Said (vote_statement t p n a)
 
-vote_back : (t : Change) (p : Place) (n : Option KeyNumber) (a : Answer) → from (numbers (vote_statement t p n a)) ≡ vote_statement t p n a
-vote_back t p n a = grind arith
-
 said_back : {s : Statement} → Said s → from (numbers s) ≡ s
 said_back (in-letter t b) = back t b
-said_back (in-vote t p n a) = vote_back t p n a
+said_back (in-vote t p n a) = grind arith
 
 -- numbers small enough for their bytes
 pub record Small (s : Statement) : Type 0 where
@@ -119,15 +113,12 @@ eight : (n m : ℕ) → n < 18446744073709551616 → m < 18446744073709551616 �
     → n / 4294967296 % 256 ≡ m / 4294967296 % 256 → n / 1099511627776 % 256 ≡ m / 1099511627776 % 256 → n / 281474976710656 % 256 ≡ m / 281474976710656 % 256 → n / 72057594037927936 % 256 ≡ m / 72057594037927936 % 256 → n ≡ m
 eight n m a b p q r s t u v w = omega arith
 
-one : (n m : ℕ) → n < 256 → m < 256 → n % 256 ≡ m % 256 → n ≡ m
-one n m a b e = omega arith
-
 same_numbers : (s u : Statement) → Small s → Small u → statement_bytes s ≡ statement_bytes u → numbers s ≡ numbers u
 unfolding statement_bytes le4 le8
 same_numbers s u a b e =
     let at : (i : ℕ) → get_or (statement_bytes s) i 0 ≡ get_or (statement_bytes u) i 0 = λ i. ap (λ (xs : List ℕ). get_or xs i 0) e in
-    let p1 = one _ _ a.change b.change (at 1) in
-    let p2 = one _ _ a.sender b.sender (at 2) in
+    let p1 : s.change.0 ≡ u.change.0 = omega (arith, at 1, a.change, b.change) in
+    let p2 : party_number s.sender ≡ party_number u.sender = omega (arith, at 2, a.sender, b.sender) in
     let p3 = four _ _ a.number b.number (at 6) (at 7) (at 8) (at 9) in
     let p4 = eight _ _ a.digest b.digest (at 16) (at 17) (at 18) (at 19) (at 20) (at 21) (at 22) (at 23) in
     λ i. record { kind = at 0 i; change = p1 i; sender = p2 i; place = at 3 i; view = at 4 i; flags = at 5 i; number = p3 i; basis = at 10 i; digest = p4 i }
@@ -141,17 +132,7 @@ pub digest_below : (c : Certificate) → (certificate_digest c).0 < 2 ^ 64
 digest_below c = fnv_below 14695981039346656037 (certificate_bytes c) (omega arith)
 
 pub number_below : (n : Option KeyNumber) → number_fits n ≡ true → number_word n < 4294967296
-number_below None e = omega arith
-number_below (Some n) e = let h = leb-true _ _ e in omega arith
-
-seat_below : (sizes : Sizes) (s : Seat) → seat_fits sizes s ≡ true → s.0 < 256
-seat_below sizes s e = let h = ltb-true _ _ e in omega arith
-
-place_below : (sizes : Sizes) (p : Place) → place_fits sizes p ≡ true → 32 + p.0 < 256
-place_below sizes p e = let h = ltb-true _ _ e in omega arith
-
-leader_below : (sizes : Sizes) (t : Change) (v : View) (s : Seat) → leads sizes t v s ≡ true → s.0 < 256
-leader_below sizes t v s e = let h = eqb-true _ _ e in let k = mod_below v.0 (seat_count sizes) (omega arith) in omega arith
+number_below n e = grind (arith, nat_tests)
 
 -- the numbers of a letter's statement are small, kind by kind
 pub small : (sizes : Sizes) (t : Change) (b : Body Certificate Basis) → t.0 < 256 → body_fits sizes t b ≡ true → Small (statement_of t (in_brief b))
@@ -163,11 +144,7 @@ small sizes t b h f = record {
 }
 
 small_letter : (sizes : Sizes) (l : Letter Certificate Basis) → letter_fits sizes l ≡ true → Small (statement l)
-small_letter sizes l f =
-    let c : leb l.change.0 255 ≡ true = grind arith in
-    let b : body_fits sizes l.change l.body ≡ true = grind arith in
-    let d = leb-true l.change.0 255 c in
-    small sizes l.change l.body (omega arith) b
+small_letter sizes l f = small sizes l.change l.body (grind (arith, nat_tests)) (grind arith)
 
 -- statements with small numbers and the same bytes are the same
 pub same_statements : {s u : Statement} → Said s → Said u → Small s → Small u → statement_bytes s ≡ statement_bytes u → s ≡ u
