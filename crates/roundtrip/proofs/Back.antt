@@ -101,11 +101,7 @@ proposal_read sizes t s v x c w {xs} {e} f q₀ =
     let z = eqb v.0 0 in
     let m = proposal_map (outcome_number x) (not z) in
     let (g, o5, o11) = proposal_fits (outcome_number x) (not z) in
-    let (fv, f1) = and_parts (is_byte v.0) _ f in
-    let (fl, f2) = and_parts (leads sizes t v s) _ f1 in
-    let (fx, f3) = and_parts (R.outcome_fits x) _ f2 in
-    let (fc, fm) = and_parts (certificate_fits sizes c) (movers_fit sizes v w.0) f3 in
-    let fc' = fits_parts sizes c fc in
+    let fc = fits_parts sizes c (grind (arith, and_parts, f)) in
     let l = head m K.Proposal t (Controller s) in
     let q : Piece xs 0 ((((l ++ view_bytes v) ++ outcome_bytes x) ++ certificate_bytes c) ++ movers_bytes v w) e =
     subst (λ b. Piece xs 0 ((((head (common + bit 4 + number_bit (outcome_number x) + bit 10 + b) K.Proposal t (Controller s) ++ view_bytes v) ++ outcome_bytes x) ++ certificate_bytes c) ++ movers_bytes v w) e) (movers_bit_lem z) q₀ in
@@ -122,13 +118,13 @@ proposal_read sizes t s v x c w {xs} {e} f q₀ =
       starts = start m K.Proposal t (Controller s) h;
       fitting = g;
       reads =
-          after (F.controller_field sizes xs 4) (s, 5) _ _ (R.controller_reads sizes (record { piece = sender m K.Proposal t (Controller s) h; fit = leader_fits sizes t v s fl }))
+          after (F.controller_field sizes xs 4) (s, 5) _ _ (R.controller_reads sizes (record { piece = sender m K.Proposal t (Controller s) h; fit = leader_fits sizes t v s (grind (arith, f)) }))
           (after (F.view_field xs 5) (v, 6) _ _ (R.view_reads (second_part l (view_bytes v) h1))
           (pass (proposal_view_fits sizes t v s (stands m 11)) 5 _ _ (ap (λ y. proposal_view_fits sizes t v s y) o11 ∙ grind arith)
-          (after (F.outcome_if (stands m 5) xs 6) (x, a3) _ _ (ap (λ y. F.outcome_if y xs 6) o5 ∙ R.outcome_reads x a3 (record { piece = second_part (l ++ view_bytes v) (outcome_bytes x) h2; fit = fx }))
-          (after (certificate_field sizes xs a3) (span_of (certificate_bytes c) a3, a4) _ _ (certificate_reads sizes c fc' (second_part ((l ++ view_bytes v) ++ outcome_bytes x) (certificate_bytes c) h3))
-          (after (F.movers_if (stands m 11) sizes xs a4) (w, e) _ _ (ap (λ y. F.movers_if y sizes xs a4) o11 ∙ movers_read v sizes w fm (second_part (((l ++ view_bytes v) ++ outcome_bytes x) ++ certificate_bytes c) (movers_bytes v w) q)) refl)))));
-      keeps = ap (λ (k : Certificate). Proposal s v x k w) (certificate_back sizes c fc');
+          (after (F.outcome_if (stands m 5) xs 6) (x, a3) _ _ (ap (λ y. F.outcome_if y xs 6) o5 ∙ R.outcome_reads x a3 (record { piece = second_part (l ++ view_bytes v) (outcome_bytes x) h2; fit = grind (arith, f) }))
+          (after (certificate_field sizes xs a3) (span_of (certificate_bytes c) a3, a4) _ _ (certificate_reads sizes c fc (second_part ((l ++ view_bytes v) ++ outcome_bytes x) (certificate_bytes c) h3))
+          (after (F.movers_if (stands m 11) sizes xs a4) (w, e) _ _ (ap (λ y. F.movers_if y sizes xs a4) o11 ∙ movers_read v sizes w (grind (arith, f)) (second_part (((l ++ view_bytes v) ++ outcome_bytes x) ++ certificate_bytes c) (movers_bytes v w) q)) refl)))));
+      keeps = ap (λ (k : Certificate). Proposal s v x k w) (certificate_back sizes c fc);
     }
 
 body_read : (sizes : Sizes) (t : Change) (b : Body Certificate Basis) {xs : List ℕ} {e : ℕ} → body_fits sizes t b ≡ true → Piece xs 0 (body_bytes t b) e → BodyRead sizes t b xs e
@@ -143,7 +139,6 @@ body_read sizes t (Enrol p) {xs} {e} f q = record {
 }
 body_read sizes t (Receipt s p) {xs} {e} f q =
     let m = common + bit 3 in
-    let (fs, fp) = and_parts (seat_fits sizes s) (place_fits sizes p) f in
     let h = first_part (head m K.Receipt t (Controller s)) (p.0 ∷ []) q in
     record {
       map = m;
@@ -152,8 +147,8 @@ body_read sizes t (Receipt s p) {xs} {e} f q =
       starts = start m K.Receipt t (Controller s) h;
       fitting = (refl, refl);
       reads =
-          after (F.controller_field sizes xs 4) (s, 5) _ _ (R.controller_reads sizes (record { piece = sender m K.Receipt t (Controller s) h; fit = fs }))
-          (after (F.place_field sizes xs 5) (p, e) _ _ (R.place_reads sizes (record { piece = second_part (head m K.Receipt t (Controller s)) (p.0 ∷ []) q; fit = fp })) refl);
+          after (F.controller_field sizes xs 4) (s, 5) _ _ (R.controller_reads sizes (record { piece = sender m K.Receipt t (Controller s) h; fit = grind (arith, f) }))
+          (after (F.place_field sizes xs 5) (p, e) _ _ (R.place_reads sizes (record { piece = second_part (head m K.Receipt t (Controller s)) (p.0 ∷ []) q; fit = grind (arith, f) })) refl);
       keeps = refl;
     }
 body_read sizes t (Order n) {xs} {e} f q =
@@ -173,8 +168,6 @@ body_read sizes t (Order n) {xs} {e} f q =
     }
 body_read sizes t (Summons s n z) {xs} {e} f q =
     let m = common + bit 5 + bit 8 in
-    let (fs, fr) = and_parts (seat_fits sizes s) (R.key_fits n && is_word z.0) f in
-    let (fn, fz) = and_parts (R.key_fits n) (is_word z.0) fr in
     let l = head m K.Summons t (Controller s) in
     let h1 = first_part (l ++ le4 n.0) (le8 z.0) q in
     let h = first_part l (le4 n.0) h1 in
@@ -186,14 +179,13 @@ body_read sizes t (Summons s n z) {xs} {e} f q =
       starts = start m K.Summons t (Controller s) h;
       fitting = (refl, refl);
       reads =
-          after (F.controller_field sizes xs 4) (s, 5) _ _ (R.controller_reads sizes (record { piece = sender m K.Summons t (Controller s) h; fit = fs }))
-          (after (F.number_field xs 5) (n, a2) _ _ (R.number_reads (record { piece = second_part l (le4 n.0) h1; fit = fn }))
-          (after (F.seal_field xs a2) (z, e) _ _ (R.seal_reads (record { piece = second_part (l ++ le4 n.0) (le8 z.0) q; fit = fz })) refl));
+          after (F.controller_field sizes xs 4) (s, 5) _ _ (R.controller_reads sizes (record { piece = sender m K.Summons t (Controller s) h; fit = grind (arith, f) }))
+          (after (F.number_field xs 5) (n, a2) _ _ (R.number_reads (record { piece = second_part l (le4 n.0) h1; fit = grind (arith, f) }))
+          (after (F.seal_field xs a2) (z, e) _ _ (R.seal_reads (record { piece = second_part (l ++ le4 n.0) (le8 z.0) q; fit = grind (arith, f) })) refl));
       keeps = refl;
     }
 body_read sizes t (Vote p n x) {xs} {e} f q =
     let m = common + bit 5 + bit 6 in
-    let (fp, fn) = and_parts (place_fits sizes p) (R.key_fits n) f in
     let l = head m K.Vote t (Lock p) in
     let h1 = first_part (l ++ le4 n.0) (answer_number x ∷ []) q in
     let h = first_part l (le4 n.0) h1 in
@@ -205,8 +197,8 @@ body_read sizes t (Vote p n x) {xs} {e} f q =
       starts = start m K.Vote t (Lock p) h;
       fitting = (refl, refl);
       reads =
-          after (F.lock_field sizes xs 4) (p, 5) _ _ (R.lock_reads sizes (record { piece = sender m K.Vote t (Lock p) h; fit = fp }))
-          (after (F.number_field xs 5) (n, a2) _ _ (R.number_reads (record { piece = second_part l (le4 n.0) h1; fit = fn }))
+          after (F.lock_field sizes xs 4) (p, 5) _ _ (R.lock_reads sizes (record { piece = sender m K.Vote t (Lock p) h; fit = grind (arith, f) }))
+          (after (F.number_field xs 5) (n, a2) _ _ (R.number_reads (record { piece = second_part l (le4 n.0) h1; fit = grind (arith, f) }))
           (after (F.answer_field xs a2) (x, e) _ _ (R.answer_reads (second_part (l ++ le4 n.0) (answer_number x ∷ []) q)) refl));
       keeps = refl;
     }
@@ -256,7 +248,6 @@ body_read sizes t (Confirm s v x d) {xs} {e} f q =
 body_read sizes t (Result s x) {xs} {e} f q =
     let m = order_map (outcome_number x) in
     let (_, g, o) = order_fits_lem (outcome_number x) in
-    let (fs, fx) = and_parts (seat_fits sizes s) (R.outcome_fits x) f in
     let l = head m K.Result t (Controller s) in
     let h = first_part l (outcome_bytes x) q in
     record {
@@ -266,19 +257,19 @@ body_read sizes t (Result s x) {xs} {e} f q =
       starts = start m K.Result t (Controller s) h;
       fitting = g;
       reads =
-          after (F.controller_field sizes xs 4) (s, 5) _ _ (R.controller_reads sizes (record { piece = sender m K.Result t (Controller s) h; fit = fs }))
-          (after (F.outcome_if (stands m 5) xs 5) (x, e) _ _ (ap (λ x. F.outcome_if x xs 5) o ∙ R.outcome_reads x e (record { piece = second_part l (outcome_bytes x) q; fit = fx })) refl);
+          after (F.controller_field sizes xs 4) (s, 5) _ _ (R.controller_reads sizes (record { piece = sender m K.Result t (Controller s) h; fit = grind (arith, f) }))
+          (after (F.outcome_if (stands m 5) xs 5) (x, e) _ _ (ap (λ x. F.outcome_if x xs 5) o ∙ R.outcome_reads x e (record { piece = second_part l (outcome_bytes x) q; fit = grind (arith, f) })) refl);
       keeps = refl;
     }
 body_read sizes t (Move s v b) {xs} {e} f q =
     let m = move_map b in
     let (g, o9, o5) = move_fits b in
-    let (fs, f1) = and_parts (seat_fits sizes s) _ f in
-    let (fv, f2) = and_parts (is_byte v.0) _ f1 in
-    let (fz, fb) = and_parts (not (eqb v.0 0)) (grounds_fit sizes t v b) f2 in
     let l = head m K.Move t (Controller s) in
     let h1 = first_part (l ++ view_bytes v) (grounds_bytes b) q in
     let h = first_part l (view_bytes v) h1 in
+    let (fs, f1) = and_parts (seat_fits sizes s) _ f in
+    let (fv, f2) = and_parts (is_byte v.0) _ f1 in
+    let (fz, fb) = and_parts (not (eqb v.0 0)) (grounds_fit sizes t v b) f2 in
     let w = grounds_read sizes t v b fb (second_part (l ++ view_bytes v) (grounds_bytes b) q) in
     record {
       map = m;
@@ -320,9 +311,7 @@ letter_read sizes xs t b z e ft r q =
 
 pub letters_are_read_back : LettersAreReadBack
 letters_are_read_back sizes l f =
-    let (ft, f1) = and_parts (is_change l.change.0) _ f in
-    let (fz, fb) = and_parts (is_word l.seal.0) (body_fits sizes l.change l.body) f1 in
     let xs = layout l in
     let q = whole xs in
     let body = body_bytes l.change l.body in
-    letter_read sizes xs l.change l.body l.seal _ ft (body_read sizes l.change l.body fb (first_part body (le8 l.seal.0) q)) (record { piece = second_part body (le8 l.seal.0) q; fit = fz })
+    letter_read sizes xs l.change l.body l.seal _ (grind (arith, f)) (body_read sizes l.change l.body (grind (arith, f)) (first_part body (le8 l.seal.0) q)) (record { piece = second_part body (le8 l.seal.0) q; fit = grind (arith, f) })
