@@ -25,7 +25,7 @@ use Rattle.kept.specs.Kept.{certificate_in, basis_in}
 use Rattle.roundtrip.specs.Laws.{Bytes, grounds_certificate}
 use Rattle.roundtrip.proofs.Pieces.{Piece, join, first_part, second_part, nothing, whole, between_is, two_at_lem, eight_at_lem}
 use Rattle.roundtrip.proofs.Rows.{map_below, rows_length, rows_found}
-use Rattle.roundtrip.proofs.Steps.{after, step, pass, passed, ok_same, two_reads, two_found}
+use Rattle.roundtrip.proofs.Steps.{after, step, pass, passed, checked_found, ok_same, two_reads, two_found}
 use Rattle.roundtrip.proofs.Fields.{Stands, view_reads, view_found, outcome_reads, outcome_found, outcome_bytes, outcome_fits, changes, seal_reads, seal_found, seal_of, seal_fits}
 use Rattle.roundtrip.proofs.Certificates.{Fits, fits_parts, parts_fit, map_low, low_map, seals_reads, seals_found, rows_at_lem, span_of, certificate_reads, certificate_back, Certified, certificate_found, same_certificate}
 
@@ -133,9 +133,8 @@ pub record Based (sizes : Sizes) (t : Change) (v : View) (xs : List ℕ) (a e : 
 module _ (sizes : Sizes) (t : Change) (v : View) (xs : List ℕ) (bytes : Bytes xs) (a : ℕ) where
   basis_view_found : (p : View × ℕ) → basis_view_field v xs a ≡ Ok p → Piece xs a (p.0.0 ∷ []) p.1 × (ltb p.0.0 v.0 ≡ true)
   basis_view_found p e =
-      step (view_field xs a) _ p e (λ q e1 e2.
-      let (f, e3) = passed (ltb q.0.0 v.0) a _ p e2 in
-      subst (λ (p : View × ℕ). Piece xs a (p.0.0 ∷ []) p.1 × (ltb p.0.0 v.0 ≡ true)) (ok_same e3) ((view_found xs bytes a q e1).piece, f))
+      let (e1, f) = checked_found view_field (λ u. ltb u.0 v.0) xs a p e in
+      ((view_found xs bytes a p e1).piece, f)
 
   Assenters : View → ℕ × ℕ → Type 0
   Assenters u p = Piece xs a (le2 p.0) p.1 × (p.0 < 65536) × (p.0 < 2 ^ seat_count sizes) × (ones p.0 ≡ 2 * sizes.faults) × (not (stands p.0 (leader_of sizes t u).0) ≡ true)
@@ -143,12 +142,10 @@ module _ (sizes : Sizes) (t : Change) (v : View) (xs : List ℕ) (bytes : Bytes 
   assenters_found : (u : View) (p : ℕ × ℕ) → assenters_field sizes t u xs a ≡ Ok p → Assenters u p
   unfolding Assenters
   assenters_found u p e =
-      step (two xs a) _ p e (λ q e1 e2.
-      let (f, e3) = passed (eqb (q.0 / 2 ^ seat_count sizes) 0 && (eqb (ones q.0) (2 * sizes.faults) && not (stands q.0 (leader_of sizes t u).0))) a _ p e2 in
-      let g1 = and_parts (eqb (q.0 / 2 ^ seat_count sizes) 0) _ f in
-      let g2 = and_parts (eqb (ones q.0) (2 * sizes.faults)) (not (stands q.0 (leader_of sizes t u).0)) g1.1 in
-      let (s, b) = two_found xs bytes a q e1 in
-      subst (Assenters u) (ok_same e3) (s, b, low_map _ _ (eqb-true _ _ g1.0), eqb-true _ _ g2.0, g2.1))
+      let (e1, f) = checked_found two (λ n. eqb (n / 2 ^ seat_count sizes) 0 && (eqb (ones n) (2 * sizes.faults) && not (stands n (leader_of sizes t u).0))) xs a p e in
+      let (s, b) = two_found xs bytes a p e1 in
+      let low : p.0 / 2 ^ seat_count sizes ≡ 0 = grind (arith, nat_tests, f) in
+      (s, b, low_map _ _ low, grind (arith, nat_tests, f), grind (arith, f))
 
 module _ (sizes : Sizes) (t : Change) (v : View) (xs : List ℕ) (bytes : Bytes xs) (a b : ℕ) where
   found_parts : (u : View) (m : ℕ) (z : Seal) (a1 a2 a3 : ℕ)

@@ -22,7 +22,7 @@ use Rattle.kept.specs.Kept.{votes_of, certificate_in}
 use Rattle.roundtrip.specs.Laws.{Bytes}
 use Rattle.roundtrip.proofs.Pieces.{Piece, join, first_part, second_part, whole, between_is, four_at_lem, eight_at_lem}
 use Rattle.roundtrip.proofs.Rows.{rows_length, rows_read, rows_found, votes_back, seals_map, seals_long, ready_within, voted_within, votes_seals, votes_map, votes_long, votes_ready, votes_within_lem}
-use Rattle.roundtrip.proofs.Steps.{after, came, step, pass, passed, chosen, ok_same, byte_reads, byte_found}
+use Rattle.roundtrip.proofs.Steps.{after, came, step, pass, passed, checked_found, chosen, ok_same, byte_reads, byte_found}
 use Rattle.roundtrip.proofs.Fields.{Stands, number_if_reads, number_if_found, seal_reads, seal_found, seal_of, seal_fits}
 
 -- ---- maps
@@ -87,17 +87,15 @@ flag_reads voted (Some n) {xs} {a} {b} p h = after (byte xs a) (1, b) _ _ (byte_
 module _ (xs : List ℕ) (bytes : Bytes xs) (a : ℕ) where
   enrolled_found : (sizes : Sizes) (p : ℕ × ℕ) → enrolled_field sizes xs a ≡ Ok p → Piece xs a (p.0 ∷ []) p.1 × (p.0 < 256) × (p.0 < 2 ^ sizes.locks)
   enrolled_found sizes p e =
-      let (q, e1, e2) = came (byte xs a) _ p e in
-      let (t, e3) = passed _ a _ p e2 in
-      let (s, b) = byte_found xs bytes a q e1 in
-      subst (λ (p : ℕ × ℕ). Piece xs a (p.0 ∷ []) p.1 × (p.0 < 256) × (p.0 < 2 ^ sizes.locks)) (ok_same e3) (s, b, low_map _ _ (eqb-true _ _ t))
+      let (e1, t) = checked_found byte (λ n. eqb (n / 2 ^ sizes.locks) 0) xs a p e in
+      let (s, b) = byte_found xs bytes a p e1 in
+      (s, b, low_map _ _ (eqb-true _ _ t))
 
   places_found : (of : ℕ) (p : ℕ × ℕ) → places_field of xs a ≡ Ok p → Piece xs a (p.0 ∷ []) p.1 × (p.0 < 256) × (bit_and p.0 of ≡ p.0)
   places_found of p e =
-      let (q, e1, e2) = came (byte xs a) _ p e in
-      let (t, e3) = passed _ a _ p e2 in
-      let (s, b) = byte_found xs bytes a q e1 in
-      subst (λ (p : ℕ × ℕ). Piece xs a (p.0 ∷ []) p.1 × (p.0 < 256) × (bit_and p.0 of ≡ p.0)) (ok_same e3) (s, b, eqb-true _ _ t)
+      let (e1, t) = checked_found byte (λ n. eqb (bit_and n of) n) xs a p e in
+      let (s, b) = byte_found xs bytes a p e1 in
+      (s, b, eqb-true _ _ t)
 
   flag_found : (voted : ℕ) (p : Bool × ℕ) → flag_field voted xs a ≡ Ok p → Piece xs a (cond p.0 1 0 ∷ []) p.1 × (p.0 ≡ false → voted ≡ 0)
   flag_found voted p e =

@@ -38,6 +38,15 @@ module _ {B : Type 0} where
   pub pass : (t : Bool) (at : ℕ) (f : Unit {0} → Result B Refusal) (y : Result B Refusal) → t ≡ true → f tt ≡ y → (checked t at >>= f) ≡ y
   pass t at f y e h = ap (λ s. checked s at >>= f) e ∙ h
 
+-- a field that was read, and the check that it passed
+module _ {A : Type 0} (r : List ℕ → ℕ → Read A) (t : A → Bool) (xs : List ℕ) (a : ℕ) (p : A × ℕ) where
+  pub checked_found : (r xs a >>= (λ (q : A × ℕ). checked (t q.0) a >>= (λ (u : Unit {0}). Ok q))) ≡ Ok p → (r xs a ≡ Ok p) × (t p.0 ≡ true)
+  checked_found e =
+      step (r xs a) _ p e (λ q e1 e2.
+      let (f, e3) = passed (t q.0) a _ p e2 in
+      let g : q ≡ p = ok_same e3 in
+      (e1 ∙ ap Ok g, ap (λ (p : A × ℕ). t p.0) (sym g) ∙ f))
+
 pub chosen : {A : Type 0} (t : Bool) (x : A) (r : Refusal) (y : A) → cond t (Ok x) (Err r) ≡ Ok y → (t ≡ true) × (x ≡ y)
 chosen true x r y e = (refl, ok_same e)
 chosen false x r y e = nothing_came e
