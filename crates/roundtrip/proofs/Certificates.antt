@@ -127,26 +127,33 @@ pub record Parts (c : Certificate) (xs : List ℕ) (a b : ℕ) : Type 0 where
 
 pub apart : (c : Certificate) {xs : List ℕ} {a b : ℕ} → Piece xs a (certificate_bytes c) b → Parts c xs a b
 apart c {xs} {a} {b} p =
-    let q4 = first_part (((maps c ++ number_bytes c.order.number) ++ le8 c.order.seal.0) ++ row_bytes c.enrolled) (row_bytes (vote_seals c.votes)) p in
-    let q3 = first_part ((maps c ++ number_bytes c.order.number) ++ le8 c.order.seal.0) (row_bytes c.enrolled) q4 in
-    let q2 = first_part (maps c ++ number_bytes c.order.number) (le8 c.order.seal.0) q3 in
-    let q1 = first_part (maps c) (number_bytes c.order.number) q2 in
-    let m1 = second_part (map_of is_some c.enrolled ∷ []) (map_of is_some c.votes ∷ map_of ready_vote c.votes ∷ order_flag c.order.number ∷ []) q1 in
-    let m2 = second_part (map_of is_some c.votes ∷ []) (map_of ready_vote c.votes ∷ order_flag c.order.number ∷ []) m1 in
-    let m3 = second_part (map_of ready_vote c.votes ∷ []) (order_flag c.order.number ∷ []) m2 in
+    let e = map_of is_some c.enrolled ∷ [] in
+    let v = map_of is_some c.votes ∷ [] in
+    let r = map_of ready_vote c.votes ∷ [] in
+    let o = order_flag c.order.number ∷ [] in
+    let n = number_bytes c.order.number in
+    let z = le8 c.order.seal.0 in
+    let es = row_bytes c.enrolled in
+    let vs = row_bytes (vote_seals c.votes) in
+    let q4 = first_part (((maps c ++ n) ++ z) ++ es) vs p in
+    let q3 = first_part ((maps c ++ n) ++ z) es q4 in
+    let q2 = first_part (maps c ++ n) z q3 in
+    let q1 = first_part (maps c) n q2 in
+    let m1 = second_part e (v ++ r ++ o) q1 in
+    let m2 = second_part v (r ++ o) m1 in
     record {
       a4 = _;
       a5 = _;
       a6 = _;
       a7 = _;
-      enrolled_piece = first_part (map_of is_some c.enrolled ∷ []) (map_of is_some c.votes ∷ map_of ready_vote c.votes ∷ order_flag c.order.number ∷ []) q1;
-      voted_piece = first_part (map_of is_some c.votes ∷ []) (map_of ready_vote c.votes ∷ order_flag c.order.number ∷ []) m1;
-      ready_piece = first_part (map_of ready_vote c.votes ∷ []) (order_flag c.order.number ∷ []) m2;
-      flag_piece = m3;
-      number_piece = second_part (maps c) (number_bytes c.order.number) q2;
-      seal_piece = second_part (maps c ++ number_bytes c.order.number) (le8 c.order.seal.0) q3;
-      enrolments_piece = second_part ((maps c ++ number_bytes c.order.number) ++ le8 c.order.seal.0) (row_bytes c.enrolled) q4;
-      votes_piece = second_part (((maps c ++ number_bytes c.order.number) ++ le8 c.order.seal.0) ++ row_bytes c.enrolled) (row_bytes (vote_seals c.votes)) p;
+      enrolled_piece = first_part e (v ++ r ++ o) q1;
+      voted_piece = first_part v (r ++ o) m1;
+      ready_piece = first_part r o m2;
+      flag_piece = second_part r o m2;
+      number_piece = second_part (maps c) n q2;
+      seal_piece = second_part (maps c ++ n) z q3;
+      enrolments_piece = second_part ((maps c ++ n) ++ z) es q4;
+      votes_piece = second_part (((maps c ++ n) ++ z) ++ es) vs p;
     }
 
 pub fields_read : (sizes : Sizes) (c : Certificate) {xs : List ℕ} {a b : ℕ} → Fits sizes c → Piece xs a (certificate_bytes c) b → certificate_fields sizes xs a ≡ Ok (tt, b)
@@ -176,6 +183,17 @@ rows_at_lem n map rs xs a k b l m e f p = simp (← l, ← m, ← e) (rows_read 
 abbrev certificate_of : Option KeyNumber → Seal → List (Option Seal) → List (Option Vote) → Certificate
 certificate_of n z es vs = record { order = record { number = n; seal = z }; enrolled = es; votes = vs }
 
+-- the rows of a certificate, from the offset of its enrolments on
+rows_back : (sizes : Sizes) (c : Certificate) {bs : List ℕ} {b : ℕ} → Fits sizes c → (s : Parts c bs 0 b) (k : ℕ) → s.a6 ≡ k →
+    (rows_at 8 (map_of is_some c.enrolled) bs k ≡ c.enrolled)
+    × (votes_of (map_of ready_vote c.votes) (rows_at 8 (map_of is_some c.votes) bs (k + ones (map_of is_some c.enrolled) * 8)) ≡ c.votes)
+rows_back sizes c {bs} {b} f s k o =
+    let es = c.enrolled in
+    let vs = c.votes in
+    let o7 : s.a7 ≡ k + ones (map_of is_some es) * 8 = omega (arith, s.enrolments_piece.ends, rows_length es) in
+    let r = rows_at_lem 8 _ (vote_seals vs) bs s.a7 _ b (seals_long vs ∙ f.voters) (seals_map vs) o7 f.ballots s.votes_piece in
+    (rows_at_lem 8 _ es bs s.a6 k _ f.places refl o f.enrolments s.enrolments_piece, ap (votes_of (map_of ready_vote vs)) r ∙ votes_back vs)
+
 back_by : (sizes : Sizes) (n : Option KeyNumber) (z : Seal) (es : List (Option Seal)) (vs : List (Option Vote)) → Fits sizes (certificate_of n z es vs) → certificate_in (certificate_bytes (certificate_of n z es vs)) ≡ certificate_of n z es vs
 unfolding le4 le8
 back_by sizes None z es vs f =
@@ -183,29 +201,20 @@ back_by sizes None z es vs f =
     let bs = certificate_bytes c in
     let s = apart c (whole bs) in
     let o5 : s.a5 ≡ 4 = omega (arith, s.flag_piece.ends, s.number_piece.ends) in
-    let o6 : s.a6 ≡ 12 = omega (arith, s.seal_piece.ends) in
-    let o7 : s.a7 ≡ 12 + ones (map_of is_some es) * 8 = omega (arith, s.enrolments_piece.ends, rows_length es) in
     let e0 : eight_at bs 4 ≡ z.0 = subst (λ k. eight_at bs k ≡ z.0) o5 (eight_at_lem s.seal_piece (ltb-true _ _ f.word)) in
-    let r1 : rows_at 8 (map_of is_some es) bs 12 ≡ es = rows_at_lem 8 _ es bs s.a6 12 _ f.places refl o6 f.enrolments s.enrolments_piece in
-    let r2 : rows_at 8 (map_of is_some vs) bs (12 + ones (map_of is_some es) * 8) ≡ vote_seals vs = rows_at_lem 8 _ (vote_seals vs) bs s.a7 _ _ (seals_long vs ∙ f.voters) (seals_map vs) o7 f.ballots s.votes_piece in
-    let r3 = ap (votes_of (map_of ready_vote vs)) r2 ∙ votes_back vs in
-    λ i. record { order = record { number = None; seal = seal (e0 i) }; enrolled = r1 i; votes = r3 i }
+    let r = rows_back sizes c f s 12 (omega (arith, s.seal_piece.ends)) in
+    λ i. record { order = record { number = None; seal = seal (e0 i) }; enrolled = r.0 i; votes = r.1 i }
 back_by sizes (Some n) z es vs f =
     let c = certificate_of (Some n) z es vs in
     let bs = certificate_bytes c in
     let s = apart c (whole bs) in
-    let g = leb-true _ _ f.number in
     let o4 : s.a4 ≡ 4 = omega (arith, s.flag_piece.ends) in
     let o5 : s.a5 ≡ 8 = omega (arith, s.number_piece.ends) in
-    let o6 : s.a6 ≡ 16 = omega (arith, s.seal_piece.ends) in
-    let o7 : s.a7 ≡ 16 + ones (map_of is_some es) * 8 = omega (arith, s.enrolments_piece.ends, rows_length es) in
-    let k0 : four_at bs 4 ≡ n.0 = subst (λ k. four_at bs k ≡ n.0) o4 (four_at_lem s.number_piece (omega arith)) in
+    let k0 : four_at bs 4 ≡ n.0 = subst (λ k. four_at bs k ≡ n.0) o4 (four_at_lem s.number_piece (grind (arith, nat_tests, f.number))) in
     let k1 : key_of (four_at bs 4) ≡ Some n = ap key_of k0 ∙ cond-true (is_key n.0) (Some n) None f.number in
     let e0 : eight_at bs 8 ≡ z.0 = subst (λ k. eight_at bs k ≡ z.0) o5 (eight_at_lem s.seal_piece (ltb-true _ _ f.word)) in
-    let r1 : rows_at 8 (map_of is_some es) bs 16 ≡ es = rows_at_lem 8 _ es bs s.a6 16 _ f.places refl o6 f.enrolments s.enrolments_piece in
-    let r2 : rows_at 8 (map_of is_some vs) bs (16 + ones (map_of is_some es) * 8) ≡ vote_seals vs = rows_at_lem 8 _ (vote_seals vs) bs s.a7 _ _ (seals_long vs ∙ f.voters) (seals_map vs) o7 f.ballots s.votes_piece in
-    let r3 = ap (votes_of (map_of ready_vote vs)) r2 ∙ votes_back vs in
-    λ i. record { order = record { number = k1 i; seal = seal (e0 i) }; enrolled = r1 i; votes = r3 i }
+    let r = rows_back sizes c f s 16 (omega (arith, s.seal_piece.ends)) in
+    λ i. record { order = record { number = k1 i; seal = seal (e0 i) }; enrolled = r.0 i; votes = r.1 i }
 
 pub certificate_back : (sizes : Sizes) (c : Certificate) → Fits sizes c → certificate_in (certificate_bytes c) ≡ c
 certificate_back sizes c f = back_by sizes c.order.number c.order.seal c.enrolled c.votes f
