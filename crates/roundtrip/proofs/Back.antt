@@ -1,8 +1,8 @@
 -- A letter within range is read back from its bytes.
-use Rattle.std.proofs.Common.{◌≡◌, ℕ, ◌+◌, ◌/◌, ◌%◌, Bool, true, false, cond, not, ◌&&◌, eqb, ltb, leb, List, [], ◌∷◌, ◌++◌, length, Ok, sym, refl, ap, ◌∙◌, subst, ap₂, arith}
+use Rattle.std.proofs.Common.{◌≡◌, ℕ, ◌+◌, ◌/◌, ◌%◌, true, not, eqb, leb, List, [], ◌∷◌, ◌++◌, length, Ok, sym, refl, ap, ◌∙◌, subst, ap₂, arith}
 use Rattle.std.proofs.lemmas.Nat.{mod_below}
 use Rattle.std.proofs.lemmas.Bool.Decides.{nat_tests}
-use Rattle.std.proofs.lemmas.Bool.{le-leb, ltb-true, lt-ltb, eqb-true, cond-true, and_parts, and_from}
+use Rattle.std.proofs.lemmas.Bool.{le-leb, ltb-true, cond-true, and_parts}
 use Rattle.terms.specs.declared.numbers.Change.{Change}
 use Rattle.terms.specs.declared.numbers.Seat.{Seat}
 use Rattle.terms.specs.declared.numbers.View.{View}
@@ -25,7 +25,7 @@ use Rattle.letters.specs.Bodies.{retold, letter}
 use Rattle.letters.specs.Bytes.{le2, le4, le8}
 use Rattle.letters.specs.Certificates.{number_bytes, certificate_bytes}
 use Rattle.letters.specs.Layout.{bit, common, number_bit, head, viewed_bytes, movers_bytes, grounds_bytes, move_map, body_bytes, layout}
-use Rattle.letters.specs.Ranges.{is_byte, is_word, seat_fits, place_fits, leads, certificate_fits, movers_fit, grounds_fit, body_fits}
+use Rattle.letters.specs.Ranges.{is_byte, is_word, seat_fits, leads, grounds_fit, body_fits}
 use Rattle.letters.specs.Sorts.{kind_number, answer_number, stands}
 use Rattle.letters.specs.Statements.{outcome_number}
 use Rattle.reading.specs.Fields as F

@@ -2,7 +2,7 @@
 use Rattle.std.proofs.Common.{◌≡◌, ℕ, ◌+◌, ◌*◌, ◌/◌, ◌^◌, ◌<◌, ◌≤◌, Bool, true, false, not, ◌&&◌, eqb, ltb, List, [], ◌∷◌, ◌++◌, length, is_some, Some, None, Ok, Option, sym, refl, ap, ◌∙◌, subst, ap₂, arith}
 use lib.Count.{ones}
 use Rattle.std.proofs.lemmas.Bool.Decides.{nat_tests}
-use Rattle.std.proofs.lemmas.Bool.{ltb-true, lt-ltb, eqb-true, eq-eqb, and_parts, and_from}
+use Rattle.std.proofs.lemmas.Bool.{ltb-true, eq-eqb, and_parts, and_from}
 use Rattle.terms.specs.declared.numbers.Change.{Change}
 use Rattle.terms.specs.declared.numbers.View.{View}
 use Rattle.terms.specs.declared.parties.Outcome.{Outcome}
@@ -25,7 +25,7 @@ use Rattle.kept.specs.Kept.{certificate_in, basis_in}
 use Rattle.roundtrip.specs.Laws.{Bytes, grounds_certificate}
 use Rattle.roundtrip.proofs.Pieces.{Piece, join, first_part, second_part, nothing, whole, between_is, two_at_lem, eight_at_lem}
 use Rattle.roundtrip.proofs.Rows.{map_below, rows_length, rows_found}
-use Rattle.roundtrip.proofs.Steps.{after, step, pass, passed, checked_found, ok_same, two_reads, two_found}
+use Rattle.roundtrip.proofs.Steps.{after, step, pass, checked_found, ok_same, two_reads, two_found}
 use Rattle.roundtrip.proofs.Fields.{Stands, view_reads, view_found, outcome_reads, outcome_found, outcome_bytes, outcome_fits, changes, seal_reads, seal_found, seal_of, seal_fits}
 use Rattle.roundtrip.proofs.Certificates.{Fits, fits_parts, parts_fit, map_low, low_map, seals_reads, seals_found, rows_at_lem, span_of, certificate_reads, certificate_back, Certified, certificate_found, same_certificate}
 

@@ -1,7 +1,7 @@
 -- Each field of a letter: its bytes are read as its value, and what is read has those bytes.
-use Rattle.std.proofs.Common.{◌≡◌, ℕ, ◌+◌, ◌-◌, ◌%◌, ◌^◌, ◌<◌, ◌≤◌, Bool, true, false, cond, eqb, leb, ◌⊎◌, List, [], ◌∷◌, length, is_some, Some, None, Ok, Err, Option, Result, sym, refl, ap, ◌∙◌, subst, inl, inr, arith}
+use Rattle.std.proofs.Common.{◌≡◌, ℕ, ◌+◌, ◌%◌, ◌^◌, ◌<◌, ◌≤◌, Bool, true, false, List, [], ◌∷◌, length, is_some, Some, None, Ok, Err, Option, Result, sym, refl, ap, ◌∙◌, subst, arith}
 use Rattle.std.proofs.lemmas.Bool.Decides.{nat_tests}
-use Rattle.std.proofs.lemmas.Bool.{leb-true, le-leb, lt-leb, lt-ltb, ltb-true, eqb-true, ne_eqb, cond-true}
+use Rattle.std.proofs.lemmas.Bool.{leb-true, ltb-true, cond-true}
 use Rattle.terms.specs.declared.numbers.Change.{Change}
 use Rattle.terms.specs.declared.numbers.KeyNumber.{KeyNumber}
 use Rattle.terms.specs.declared.numbers.Place.{Place}
@@ -13,13 +13,11 @@ use Rattle.terms.specs.declared.parties.Party.{Party}
 use Rattle.terms.specs.declared.parties.Party.TheVariants.{Controller, Lock, Office}
 use Rattle.terms.specs.declared.refusals.Refusal.{Refusal}
 use Rattle.terms.specs.declared.sizes.Sizes.{Sizes}
-use Rattle.terms.specs.Numbers.{is_change, is_key, change_of, key, key_of, view_of}
-use Rattle.terms.specs.Parties.{party_number, party_in, place_in, seat_in, as_lock, as_controller}
+use Rattle.terms.specs.Numbers.{is_change, is_key, change_of, key_of, view_of}
+use Rattle.terms.specs.Parties.{party_number, party_in, place_in}
 use Rattle.letters.specs.declared.sorts.Answer.{Answer}
-use Rattle.letters.specs.declared.sorts.Answer.TheVariants.{Ready, Refuse}
 use Rattle.letters.specs.declared.sorts.Digest.{Digest}
 use Rattle.letters.specs.declared.sorts.Kind.{Kind}
-use Rattle.letters.specs.declared.sorts.Kind.TheVariants as K
 use Rattle.letters.specs.declared.sorts.Seal.{Seal}
 use Rattle.letters.specs.Bytes.{le4, le8}
 use Rattle.letters.specs.Certificates.{number_bytes}

@@ -2,7 +2,6 @@
 use Rattle.std.proofs.Common.{◌≡◌, ℕ, ◌+◌, ◌^◌, ◌<◌, ◌≤◌, Bool, true, false, cond, leb, List, [], ◌∷◌, length, Some, None, Ok, Err, Option, Result, sym, refl, ap, ◌∙◌, subst, ap₂, arith}
 use Rattle.std.proofs.lemmas.Bool.{leb-true, le-leb, cond-true}
 use Rattle.terms.specs.declared.refusals.Refusal.{Refusal}
-use Rattle.terms.specs.Numbers.{within}
 use Rattle.letters.specs.Bytes.{le2, le4, le8}
 use Rattle.reading.specs.Bind.{◌>>=◌}
 use Rattle.reading.specs.Fields.{Read, ranged, checked, sized, byte, two, four, eight}

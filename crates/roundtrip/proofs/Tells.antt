@@ -1,21 +1,16 @@
 -- From the bytes of a statement back to the statement: its numbers, and a left inverse by kind.
-use Rattle.std.proofs.Common.{◌≡◌, ℕ, ◌+◌, ◌-◌, ◌/◌, ◌%◌, ◌^◌, ◌<◌, true, cond, eqb, ltb, leb, List, [], ◌∷◌, get_or, Some, None, fold, Option, sym, refl, ap, ◌∙◌, arith}
+use Rattle.std.proofs.Common.{◌≡◌, ℕ, ◌-◌, ◌/◌, ◌%◌, ◌^◌, ◌<◌, true, cond, eqb, ltb, List, [], ◌∷◌, get_or, Some, None, fold, Option, sym, ap, ◌∙◌, arith}
 use Rattle.std.proofs.lemmas.Nat.{mod_below, pow_pos}
 use Rattle.std.proofs.lemmas.Bool.Decides.{nat_tests}
-use Rattle.std.proofs.lemmas.Bool.{leb-true, ltb-true, eqb-true}
 use Rattle.terms.specs.declared.numbers.Change.{Change}
 use Rattle.terms.specs.declared.numbers.KeyNumber.{KeyNumber}
 use Rattle.terms.specs.declared.numbers.Place.{Place}
-use Rattle.terms.specs.declared.numbers.Seat.{Seat}
 use Rattle.terms.specs.declared.numbers.View.{View}
-use Rattle.terms.specs.declared.parties.Outcome.{Outcome}
-use Rattle.terms.specs.declared.parties.Outcome.TheVariants.{Keep, Number}
 use Rattle.terms.specs.declared.parties.Party.{Party}
 use Rattle.terms.specs.declared.parties.Party.TheVariants.{Controller, Lock, Office}
 use Rattle.terms.specs.declared.sizes.Sizes.{Sizes}
 use Rattle.terms.specs.Numbers.{seat, place, view_of, change, key}
 use Rattle.terms.specs.Parties.{party_number}
-use Rattle.terms.specs.Sizes.{seat_count}
 use Rattle.letters.specs.declared.sorts.Answer.{Answer}
 use Rattle.letters.specs.declared.sorts.Answer.TheVariants.{Ready, Refuse}
 use Rattle.letters.specs.declared.sorts.Digest.{Digest}
@@ -26,14 +21,13 @@ use Rattle.letters.specs.declared.certificates.Basis.{Basis}
 use Rattle.letters.specs.declared.bodies.Brief.{Brief}
 use Rattle.letters.specs.declared.bodies.Letter.{Letter}
 use Rattle.letters.specs.declared.bodies.Body.{Body}
-use Rattle.letters.specs.declared.bodies.Body.TheVariants.{Enrol, Receipt, Order, Summons, Vote, Proposal, Assent, Confirm, Result, Move}
 use Rattle.letters.specs.declared.statements.Statement.{Statement}
 use Rattle.letters.specs.Bodies.{in_brief}
 use Rattle.letters.specs.Bytes.{le4, le8}
 use Rattle.letters.specs.Certificates.{fnv_step, certificate_bytes, certificate_digest}
-use Rattle.letters.specs.Ranges.{letter_fits, body_fits, number_fits, seat_fits, place_fits, leads, is_word}
+use Rattle.letters.specs.Ranges.{letter_fits, body_fits, number_fits}
 use Rattle.letters.specs.Sorts.{kind_number, digest}
-use Rattle.letters.specs.Statements.{statement_of, vote_statement, statement_bytes, place_byte, view_byte, number_word, digest_word, flags_of, outcome_number}
+use Rattle.letters.specs.Statements.{statement_of, vote_statement, statement_bytes, place_byte, view_byte, number_word, digest_word, flags_of}
 use Rattle.roundtrip.specs.Laws.{statement, StatementsTell}
 
 -- a statement in plain numbers
