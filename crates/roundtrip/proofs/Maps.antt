@@ -81,9 +81,9 @@ movers_found_by false sizes xs bytes a h p e =
     let (s, b) = two_found xs bytes a q e1 in
     subst (MoversBy false sizes xs a) (ok_same e3) (s, and_from _ _ (lt-ltb _ _ (low_map _ _ (eqb-true _ _ g.0))) g.1))
 
-pub movers_found : (v : View) (moved : Bool) (sizes : Sizes) (xs : List ℕ) → Bytes xs → (a : ℕ) → a ≤ length xs → (p : SeatSet × ℕ) → moved ≡ not (eqb v.0 0) → F.movers_if moved sizes xs a ≡ Ok p
+pub movers_found : (v : View) (moved : Bool) (sizes : Sizes) (xs : List ℕ) → Bytes xs → (a : ℕ) → a ≤ length xs → moved ≡ not (eqb v.0 0) → (p : SeatSet × ℕ) → F.movers_if moved sizes xs a ≡ Ok p
     → Piece xs a (movers_bytes v p.0) p.1 × (movers_fit sizes v p.0.0 ≡ true)
-movers_found v moved sizes xs bytes a h p m e = movers_found_by (eqb v.0 0) sizes xs bytes a h p (subst (λ x. F.movers_if x sizes xs a ≡ Ok p) m e)
+movers_found v moved sizes xs bytes a h m p e = movers_found_by (eqb v.0 0) sizes xs bytes a h p (subst (λ x. F.movers_if x sizes xs a ≡ Ok p) m e)
 
 -- ---- the map of what was read
 

@@ -22,7 +22,7 @@ use Rattle.reading.specs.Form.{fits, fit, leads, proposal_view_fits, body_field,
 use Rattle.kept.specs.Kept.{certificate_in, basis_in, kept}
 use Rattle.roundtrip.specs.Laws.{Bytes, certificate_part, OneForm, WhatIsReadIsInRange, KeptCertificateHasTheSameBytes, KeptCertificateHasTheSameDigest}
 use Rattle.roundtrip.proofs.Pieces.{Piece, join, all_of}
-use Rattle.roundtrip.proofs.Steps.{step, passed, chosen, ok_same, two_found}
+use Rattle.roundtrip.proofs.Steps.{step, found, passed, chosen, ok_same, two_found}
 use Rattle.roundtrip.proofs.Fields as R
 use Rattle.roundtrip.proofs.Certificates.{parts_fit, certificate_found, certified_is, same_certificate}
 use Rattle.roundtrip.proofs.Bases.{grounds_found}
@@ -48,70 +48,54 @@ module _ (sizes : Sizes) (t : Change) (m : ℕ) (xs : List ℕ) (bytes : Bytes x
 
   body_found : (k : Kind) → Piece xs 0 (begin m k t) o → fits k m ≡ true → body_field sizes t m k xs o ≡ Ok p → BodyFound sizes t xs p
   body_found K.Enrol b f e =
-      step (F.lock_field sizes xs o) _ p e (λ q1 e1 d1.
-      let s1 = R.lock_found sizes xs bytes o q1 e1 in
+      found _ p (R.lock_found sizes xs bytes o) e (λ q1 s1 d1.
       subst (BodyFound sizes t xs) (ok_same d1) (record {
         piece = join (starts K.Enrol common (eqb-true _ _ f) b) s1.piece;
         fit = s1.fit;
         same = no_certificate;
       }))
   body_found K.Receipt b f e =
-      step (F.controller_field sizes xs o) _ p e (λ q1 e1 d1.
-      step (F.place_field sizes xs q1.1) _ p d1 (λ q2 e2 d2.
-      let s1 = R.controller_found sizes xs bytes o q1 e1 in
-      let s2 = R.place_found sizes xs bytes q1.1 q2 e2 in
+      found _ p (R.controller_found sizes xs bytes o) e (λ q1 s1 d1.
+      found _ p (R.place_found sizes xs bytes q1.1) d1 (λ q2 s2 d2.
       subst (BodyFound sizes t xs) (ok_same d2) (record {
         piece = join (join (starts K.Receipt (common + bit 3) (eqb-true _ _ f) b) s1.piece) s2.piece;
         fit = and_from _ _ s1.fit s2.fit;
         same = no_certificate;
       })))
   body_found K.Order b f e =
-      step (F.office_field sizes xs o) _ p e (λ q1 e1 d1.
-      step (F.number_if (stands m 5) xs q1.1) _ p d1 (λ q2 e2 d2.
-      let s1 = R.office_found sizes xs bytes o q1 e1 in
-      let s2 = R.number_if_found (stands m 5) xs bytes q1.1 s1.within q2 e2 in
+      found _ p (R.office_found sizes xs bytes o) e (λ q1 s1 d1.
+      found _ p (R.number_if_found (stands m 5) xs bytes q1.1 s1.within) d1 (λ q2 s2 d2.
       subst (BodyFound sizes t xs) (ok_same d2) (record {
         piece = join (join (starts K.Order _ (order_map_lem m q2.0 small f s2.1) b) s1) s2.0.piece;
         fit = s2.0.fit;
         same = no_certificate;
       })))
   body_found K.Summons b f e =
-      step (F.controller_field sizes xs o) _ p e (λ q1 e1 d1.
-      step (F.number_field xs q1.1) _ p d1 (λ q2 e2 d2.
-      step (F.seal_field xs q2.1) _ p d2 (λ q3 e3 d3.
-      let s1 = R.controller_found sizes xs bytes o q1 e1 in
-      let s2 = R.number_found xs bytes q1.1 q2 e2 in
-      let s3 = R.seal_found xs bytes q2.1 q3 e3 in
+      found _ p (R.controller_found sizes xs bytes o) e (λ q1 s1 d1.
+      found _ p (R.number_found xs bytes q1.1) d1 (λ q2 s2 d2.
+      found _ p (R.seal_found xs bytes q2.1) d2 (λ q3 s3 d3.
       subst (BodyFound sizes t xs) (ok_same d3) (record {
         piece = join (join (join (starts K.Summons (common + bit 5 + bit 8) (eqb-true _ _ f) b) s1.piece) s2.piece) s3.piece;
         fit = and_from _ _ s1.fit (and_from _ _ s2.fit s3.fit);
         same = no_certificate;
       }))))
   body_found K.Vote b f e =
-      step (F.lock_field sizes xs o) _ p e (λ q1 e1 d1.
-      step (F.number_field xs q1.1) _ p d1 (λ q2 e2 d2.
-      step (F.answer_field xs q2.1) _ p d2 (λ q3 e3 d3.
-      let s1 = R.lock_found sizes xs bytes o q1 e1 in
-      let s2 = R.number_found xs bytes q1.1 q2 e2 in
-      let s3 = R.answer_found xs bytes q2.1 q3 e3 in
+      found _ p (R.lock_found sizes xs bytes o) e (λ q1 s1 d1.
+      found _ p (R.number_found xs bytes q1.1) d1 (λ q2 s2 d2.
+      found _ p (R.answer_found xs bytes q2.1) d2 (λ q3 s3 d3.
       subst (BodyFound sizes t xs) (ok_same d3) (record {
         piece = join (join (join (starts K.Vote (common + bit 5 + bit 6) (eqb-true _ _ f) b) s1.piece) s2.piece) s3;
         fit = and_from _ _ s1.fit s2.fit;
         same = no_certificate;
       }))))
   body_found K.Proposal b f e =
-      step (F.controller_field sizes xs o) _ p e (λ q1 e1 d1.
-      step (F.view_field xs q1.1) _ p d1 (λ q2 e2 d2.
+      found _ p (R.controller_found sizes xs bytes o) e (λ q1 s1 d1.
+      found _ p (R.view_found xs bytes q1.1) d1 (λ q2 s2 d2.
       let (v2, d2') = passed (proposal_view_fits sizes t q2.0 q1.0 (stands m 11)) q1.1 _ p d2 in
-      step (F.outcome_if (stands m 5) xs q2.1) _ p d2' (λ q3 e3 d3.
-      step (certificate_field sizes xs q3.1) _ p d3 (λ q4 e4 d4.
-      step (F.movers_if (stands m 11) sizes xs q4.1) _ p d4 (λ q5 e5 d5.
+      found _ p (R.outcome_found (stands m 5) xs bytes q2.1 s2.piece.within) d2' (λ q3 s3 d3.
+      found _ p (certificate_found sizes xs bytes q3.1) d3 (λ q4 s4 d4.
       let (l, moved) = moved_is (leads sizes t q2.0 q1.0) (stands m 11) (eqb q2.0.0 0) v2 in
-      let s1 = R.controller_found sizes xs bytes o q1 e1 in
-      let s2 = R.view_found xs bytes q1.1 q2 e2 in
-      let s3 = R.outcome_found (stands m 5) xs bytes q2.1 s2.piece.within q3 e3 in
-      let s4 = certificate_found sizes xs bytes q3.1 q4 e4 in
-      let s5 = movers_found q2.0 (stands m 11) sizes xs bytes q4.1 s4.piece.within q5 moved e5 in
+      found _ p (movers_found q2.0 (stands m 11) sizes xs bytes q4.1 s4.piece.within moved) d4 (λ q5 s5 d5.
       let c = certified_is sizes xs q3.1 q4 s4 in
       let c4 = subst (λ (c : Certificate). Piece xs q3.1 (certificate_bytes c) q4.1) (sym c) s4.piece in
       let f4 = subst (λ (c : Certificate). certificate_fits sizes c ≡ true) (sym c) (parts_fit sizes s4.certificate s4.fits) in
@@ -122,15 +106,11 @@ module _ (sizes : Sizes) (t : Change) (m : ℕ) (xs : List ℕ) (bytes : Bytes x
         same = λ c g. same_certificate sizes xs q3.1 q4 s4 c g;
       }))))))
   body_found K.Assent b f e =
-      step (F.controller_field sizes xs o) _ p e (λ q1 e1 d1.
-      step (F.view_field xs q1.1) _ p d1 (λ q2 e2 d2.
+      found _ p (R.controller_found sizes xs bytes o) e (λ q1 s1 d1.
+      found _ p (R.view_found xs bytes q1.1) d1 (λ q2 s2 d2.
       let (v2, d2') = passed (not (leads sizes t q2.0 q1.0)) q1.1 _ p d2 in
-      step (F.outcome_if (stands m 5) xs q2.1) _ p d2' (λ q3 e3 d3.
-      step (F.digest_field xs q3.1) _ p d3 (λ q4 e4 d4.
-      let s1 = R.controller_found sizes xs bytes o q1 e1 in
-      let s2 = R.view_found xs bytes q1.1 q2 e2 in
-      let s3 = R.outcome_found (stands m 5) xs bytes q2.1 s2.piece.within q3 e3 in
-      let s4 = R.digest_found xs bytes q3.1 q4 e4 in
+      found _ p (R.outcome_found (stands m 5) xs bytes q2.1 s2.piece.within) d2' (λ q3 s3 d3.
+      found _ p (R.digest_found xs bytes q3.1) d3 (λ q4 s4 d4.
       let b' = starts K.Assent _ (viewed_map_lem m (outcome_number q3.0) small f s3.1) b in
       subst (BodyFound sizes t xs) (ok_same d4) (record {
         piece = join (join (join (join b' s1.piece) s2.piece) s3.0.piece) s4.piece;
@@ -138,14 +118,10 @@ module _ (sizes : Sizes) (t : Change) (m : ℕ) (xs : List ℕ) (bytes : Bytes x
         same = no_certificate;
       })))))
   body_found K.Confirm b f e =
-      step (F.controller_field sizes xs o) _ p e (λ q1 e1 d1.
-      step (F.view_field xs q1.1) _ p d1 (λ q2 e2 d2.
-      step (F.outcome_if (stands m 5) xs q2.1) _ p d2 (λ q3 e3 d3.
-      step (F.digest_field xs q3.1) _ p d3 (λ q4 e4 d4.
-      let s1 = R.controller_found sizes xs bytes o q1 e1 in
-      let s2 = R.view_found xs bytes q1.1 q2 e2 in
-      let s3 = R.outcome_found (stands m 5) xs bytes q2.1 s2.piece.within q3 e3 in
-      let s4 = R.digest_found xs bytes q3.1 q4 e4 in
+      found _ p (R.controller_found sizes xs bytes o) e (λ q1 s1 d1.
+      found _ p (R.view_found xs bytes q1.1) d1 (λ q2 s2 d2.
+      found _ p (R.outcome_found (stands m 5) xs bytes q2.1 s2.piece.within) d2 (λ q3 s3 d3.
+      found _ p (R.digest_found xs bytes q3.1) d3 (λ q4 s4 d4.
       let b' = starts K.Confirm _ (viewed_map_lem m (outcome_number q3.0) small f s3.1) b in
       subst (BodyFound sizes t xs) (ok_same d4) (record {
         piece = join (join (join (join b' s1.piece) s2.piece) s3.0.piece) s4.piece;
@@ -153,23 +129,18 @@ module _ (sizes : Sizes) (t : Change) (m : ℕ) (xs : List ℕ) (bytes : Bytes x
         same = no_certificate;
       })))))
   body_found K.Result b f e =
-      step (F.controller_field sizes xs o) _ p e (λ q1 e1 d1.
-      step (F.outcome_if (stands m 5) xs q1.1) _ p d1 (λ q2 e2 d2.
-      let s1 = R.controller_found sizes xs bytes o q1 e1 in
-      let s2 = R.outcome_found (stands m 5) xs bytes q1.1 s1.piece.within q2 e2 in
+      found _ p (R.controller_found sizes xs bytes o) e (λ q1 s1 d1.
+      found _ p (R.outcome_found (stands m 5) xs bytes q1.1 s1.piece.within) d1 (λ q2 s2 d2.
       subst (BodyFound sizes t xs) (ok_same d2) (record {
         piece = join (join (starts K.Result _ (order_map_lem m (outcome_number q2.0) small f s2.1) b) s1.piece) s2.0.piece;
         fit = and_from _ _ s1.fit s2.0.fit;
         same = no_certificate;
       })))
   body_found K.Move b f e =
-      step (F.controller_field sizes xs o) _ p e (λ q1 e1 d1.
-      step (F.view_field xs q1.1) _ p d1 (λ q2 e2 d2.
+      found _ p (R.controller_found sizes xs bytes o) e (λ q1 s1 d1.
+      found _ p (R.view_found xs bytes q1.1) d1 (λ q2 s2 d2.
       let (v2, d2') = passed (not (eqb q2.0.0 0)) q1.1 _ p d2 in
-      step (grounds_if (stands m 9) (stands m 5) sizes t q2.0 xs q2.1) _ p d2' (λ q3 e3 d3.
-      let s1 = R.controller_found sizes xs bytes o q1 e1 in
-      let s2 = R.view_found xs bytes q1.1 q2 e2 in
-      let s3 = grounds_found sizes t q2.0 (stands m 9) (stands m 5) xs bytes q2.1 s2.piece.within q3 e3 in
+      found _ p (grounds_found sizes t q2.0 (stands m 9) (stands m 5) xs bytes q2.1 s2.piece.within) d2' (λ q3 s3 d3.
       let b' = starts K.Move _ (move_map_lem m (each_basis basis_in q3.0) small f s3.some s3.outcome) b in
       subst (BodyFound sizes t xs) (ok_same d3) (record {
         piece = join (join (join b' s1.piece) s2.piece) s3.piece;

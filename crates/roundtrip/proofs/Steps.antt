@@ -28,6 +28,10 @@ module _ {A B P : Type 0} where
   pub step : (r : Result A Refusal) (f : A → Result B Refusal) (y : B) → (r >>= f) ≡ Ok y → ((x : A) → r ≡ Ok x → f x ≡ Ok y → P) → P
   step r f y e k = let c = came r f y e in k c.0 c.1 c.2
 
+  -- the same, with what is known of the field that was read
+  pub found : {S : A → Type 0} {r : Result A Refusal} (f : A → Result B Refusal) (y : B) → ((x : A) → r ≡ Ok x → S x) → (r >>= f) ≡ Ok y → ((x : A) → S x → f x ≡ Ok y → P) → P
+  found f y known e k = let c = came _ f y e in k c.0 (known c.0 c.1) c.2
+
 module _ {B : Type 0} where
   -- a check that was passed
   pub passed : (t : Bool) (at : ℕ) (f : Unit {0} → Result B Refusal) (y : B) → (checked t at >>= f) ≡ Ok y → (t ≡ true) × (f tt ≡ Ok y)
