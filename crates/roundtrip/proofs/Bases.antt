@@ -25,7 +25,7 @@ use Rattle.kept.specs.Kept.{certificate_in, basis_in}
 use Rattle.roundtrip.specs.Laws.{Bytes, grounds_certificate}
 use Rattle.roundtrip.proofs.Pieces.{Piece, join, first_part, second_part, nothing, whole, between_is, two_at_lem, eight_at_lem}
 use Rattle.roundtrip.proofs.Rows.{map_below, rows_length, rows_found}
-use Rattle.roundtrip.proofs.Steps.{after, step, pass, checked_found, ok_same, two_reads, two_found}
+use Rattle.roundtrip.proofs.Steps.{after, step, found, pass, checked_found, ok_same, two_reads, two_found}
 use Rattle.roundtrip.proofs.Fields.{Stands, view_reads, view_found, outcome_reads, outcome_found, outcome_bytes, outcome_fits, changes, seal_reads, seal_found, seal_of, seal_fits}
 use Rattle.roundtrip.proofs.Certificates.{Fits, fits_parts, parts_fit, map_low, low_map, seals_reads, seals_found, rows_at_lem, span_of, certificate_reads, certificate_back, Certified, certificate_found, same_certificate}
 
@@ -182,14 +182,10 @@ module _ (sizes : Sizes) (t : Change) (v : View) (xs : List ℕ) (bytes : Bytes 
 
   fields_found : (u : Unit {0}) → basis_fields sizes t v xs a ≡ Ok (u, b) → Based sizes t v xs a b
   fields_found w e0 =
-      step (basis_view_field v xs a) _ (w, b) e0 (λ q1 e1 d1.
-      step (assenters_field sizes t q1.0 xs q1.1) _ (w, b) d1 (λ q2 e2 d2.
-      step (seal_field xs q2.1) _ (w, b) d2 (λ q3 e3 d3.
-      found_parts q1.0 q2.0 q3.0 q1.1 q2.1 q3.1
-      (basis_view_found sizes t v xs bytes a q1 e1)
-      (assenters_found sizes t v xs bytes q1.1 q1.0 q2 e2)
-      (seal_found xs bytes q2.1 q3 e3)
-      (seals_found (2 * sizes.faults) xs q3.1 (w, b) d3))))
+      found _ (w, b) (basis_view_found sizes t v xs bytes a) e0 (λ q1 s1 d1.
+      found _ (w, b) (assenters_found sizes t v xs bytes q1.1 q1.0) d1 (λ q2 s2 d2.
+      found _ (w, b) (seal_found xs bytes q2.1) d2 (λ q3 s3 d3.
+      found_parts q1.0 q2.0 q3.0 q1.1 q2.1 q3.1 s1 s2 s3 (seals_found (2 * sizes.faults) xs q3.1 (w, b) d3))))
 
 -- the basis and its part
 pub record BasedAt (sizes : Sizes) (t : Change) (v : View) (xs : List ℕ) (a : ℕ) (p : Span × ℕ) : Type 0 where
@@ -266,9 +262,7 @@ pub grounds_found : (sizes : Sizes) (t : Change) (v : View) (given numbered : Bo
 grounds_found sizes t v false numbered xs bytes a h p e = subst (GroundsFound sizes t v false numbered xs a) (ok_same e)
     (record { piece = nothing xs a h; fit = refl; some = refl; outcome = λ f. cc; same = λ c f. none_certified c f })
 grounds_found sizes t v true numbered xs bytes a h p e =
-    step (outcome_if numbered xs a) _ p e (λ q1 e1 d1.
-    step (basis_field sizes t v xs q1.1) _ p d1 (λ q2 e2 d2.
-    step (certificate_field sizes xs q2.1) _ p d2 (λ q3 e3 d3.
-    subst (GroundsFound sizes t v true numbered xs a) (ok_same d3)
-    (spans_found sizes t v numbered xs a q1.0 q1.1 q3.1 q2.0 q2.1 q3.0
-    (outcome_found numbered xs bytes a h q1 e1) (basis_found sizes t v xs bytes q1.1 q2 e2) (certificate_found sizes xs bytes q2.1 q3 e3)))))
+    found _ p (outcome_found numbered xs bytes a h) e (λ q1 s1 d1.
+    found _ p (basis_found sizes t v xs bytes q1.1) d1 (λ q2 s2 d2.
+    found _ p (certificate_found sizes xs bytes q2.1) d2 (λ q3 s3 d3.
+    subst (GroundsFound sizes t v true numbered xs a) (ok_same d3) (spans_found sizes t v numbered xs a q1.0 q1.1 q3.1 q2.0 q2.1 q3.0 s1 s2 s3))))

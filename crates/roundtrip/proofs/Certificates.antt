@@ -22,7 +22,7 @@ use Rattle.kept.specs.Kept.{votes_of, certificate_in}
 use Rattle.roundtrip.specs.Laws.{Bytes}
 use Rattle.roundtrip.proofs.Pieces.{Piece, join, first_part, second_part, whole, between_is, four_at_lem, eight_at_lem}
 use Rattle.roundtrip.proofs.Rows.{rows_length, rows_read, rows_found, votes_back, seals_map, seals_long, ready_within, voted_within, votes_seals, votes_map, votes_long, votes_ready, votes_within_lem}
-use Rattle.roundtrip.proofs.Steps.{after, came, step, pass, passed, checked_found, chosen, ok_same, byte_reads, byte_found}
+use Rattle.roundtrip.proofs.Steps.{after, came, step, found, pass, passed, checked_found, chosen, ok_same, byte_reads, byte_found}
 use Rattle.roundtrip.proofs.Fields.{Stands, number_if_reads, number_if_found, seal_reads, seal_found, seal_of, seal_fits}
 
 -- ---- maps
@@ -273,23 +273,14 @@ module _ (sizes : Sizes) (xs : List ℕ) (bytes : Bytes xs) (a b : ℕ) where
 
   fields_found : (u : Unit {0}) → certificate_fields sizes xs a ≡ Ok (u, b) → (c : Certificate) × Fits sizes c × Piece xs a (certificate_bytes c) b
   fields_found u e0 =
-      step (enrolled_field sizes xs a) _ (u, b) e0 (λ q1 e1 d1.
-      step (places_field q1.0 xs q1.1) _ (u, b) d1 (λ q2 e2 d2.
-      step (places_field q2.0 xs q2.1) _ (u, b) d2 (λ q3 e3 d3.
-      step (flag_field q2.0 xs q3.1) _ (u, b) d3 (λ q4 e4 d4.
-      step (number_if q4.0 xs q4.1) _ (u, b) d4 (λ q5 e5 d5.
-      step (seal_field xs q5.1) _ (u, b) d5 (λ q6 e6 d6.
-      step (seals (ones q1.0) xs q6.1) _ (u, b) d6 (λ q7 e7 d7.
-      let p4 = flag_found xs bytes q3.1 q2.0 q4 e4 in
-      found_parts q1.0 q2.0 q3.0 q4.0 q5.0 q6.0 q1.1 q2.1 q3.1 q4.1 q5.1 q6.1 q7.1
-      (enrolled_found xs bytes a sizes q1 e1)
-      (places_found xs bytes q1.1 q1.0 q2 e2)
-      (places_found xs bytes q2.1 q2.0 q3 e3)
-      p4
-      (number_if_found q4.0 xs bytes q4.1 p4.0.within q5 e5)
-      (seal_found xs bytes q5.1 q6 e6)
-      (seals_found (ones q1.0) xs q6.1 q7 e7)
-      (seals_found (ones q2.0) xs q7.1 (u, b) d7))))))))
+      found _ (u, b) (enrolled_found xs bytes a sizes) e0 (λ q1 s1 d1.
+      found _ (u, b) (places_found xs bytes q1.1 q1.0) d1 (λ q2 s2 d2.
+      found _ (u, b) (places_found xs bytes q2.1 q2.0) d2 (λ q3 s3 d3.
+      found _ (u, b) (flag_found xs bytes q3.1 q2.0) d3 (λ q4 s4 d4.
+      found _ (u, b) (number_if_found q4.0 xs bytes q4.1 s4.0.within) d4 (λ q5 s5 d5.
+      found _ (u, b) (seal_found xs bytes q5.1) d5 (λ q6 s6 d6.
+      found _ (u, b) (seals_found (ones q1.0) xs q6.1) d6 (λ q7 s7 d7.
+      found_parts q1.0 q2.0 q3.0 q4.0 q5.0 q6.0 q1.1 q2.1 q3.1 q4.1 q5.1 q6.1 q7.1 s1 s2 s3 s4 s5 s6 s7 (seals_found (ones q2.0) xs q7.1 (u, b) d7))))))))
 
 pub certificate_found : (sizes : Sizes) (xs : List ℕ) → Bytes xs → (a : ℕ) (p : Span × ℕ) → certificate_field sizes xs a ≡ Ok p → Certified sizes xs a p
 certificate_found sizes xs bytes a p e =

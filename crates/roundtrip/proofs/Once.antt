@@ -171,19 +171,14 @@ map_found xs bytes a p e =
 
 letter_found : (sizes : Sizes) (xs : List ℕ) (l : Letter Span Spans) → Bytes xs → read sizes xs ≡ Ok l → LetterFound sizes xs l
 letter_found sizes xs l bytes e =
-    step (F.map_field xs 0) _ l e (λ q1 e1 d1.
-    step (F.kind_field xs q1.1) _ l d1 (λ q2 e2 d2.
+    found _ l (map_found xs bytes 0) e (λ q1 s1 d1.
+    found _ l (R.kind_found xs bytes q1.1) d1 (λ q2 s2 d2.
     step (fit q2.0 q1.0) _ l d2 (λ q3 e3 d3.
-    step (F.change_field xs q2.1) _ l d3 (λ q4 e4 d4.
-    step (body_field sizes q4.0 q1.0 q2.0 xs q4.1) _ l d4 (λ q5 e5 d5.
-    step (F.seal_field xs q5.1) _ l d5 (λ q6 e6 d6.
-    step (F.ended xs q6.1) _ l d6 (λ q7 e7 d7.
-    let (s1, small) = map_found xs bytes 0 q1 e1 in
-    let s2 = R.kind_found xs bytes q1.1 q2 e2 in
+    found _ l (R.change_found xs bytes q2.1) d3 (λ q4 s4 d4.
     let f3 = (chosen (fits q2.0 q1.0) tt _ q3 e3).0 in
-    let s4 = R.change_found xs bytes q2.1 q4 e4 in
-    let s5 = body_found sizes q4.0 q1.0 xs bytes small q4.1 q5 q2.0 (join s1 (join s2 s4.piece)) f3 e5 in
-    let s6 = R.seal_found xs bytes q5.1 q6 e6 in
+    found _ l (λ q. body_found sizes q4.0 q1.0 xs bytes s1.1 q4.1 q q2.0 (join s1.0 (join s2 s4.piece)) f3) d4 (λ q5 s5 d5.
+    found _ l (R.seal_found xs bytes q5.1) d5 (λ q6 s6 d6.
+    step (F.ended xs q6.1) _ l d6 (λ q7 e7 d7.
     let f7 = leb-true _ _ (chosen (leb (length xs) q6.1) tt _ q7 e7).0 in
     subst (LetterFound sizes xs) (ok_same d7) (record {
       bytes = all_of (join s5.piece s6.piece) f7;
