@@ -118,12 +118,12 @@ proposal_read sizes t s v x c w {xs} {e} f q₀ =
       starts = start m K.Proposal t (Controller s) h;
       fitting = g;
       reads =
-          after (F.controller_field sizes xs 4) (s, 5) _ _ (R.controller_reads sizes (record { piece = sender m K.Proposal t (Controller s) h; fit = leader_fits sizes t v s (grind (arith, f)) }))
-          (after (F.view_field xs 5) (v, 6) _ _ (R.view_reads (second_part l (view_bytes v) h1))
+          after _ (R.controller_reads sizes (record { piece = sender m K.Proposal t (Controller s) h; fit = leader_fits sizes t v s (grind (arith, f)) }))
+          (after _ (R.view_reads (second_part l (view_bytes v) h1))
           (pass (proposal_view_fits sizes t v s (stands m 11)) 5 _ _ (ap (λ y. proposal_view_fits sizes t v s y) o11 ∙ grind arith)
-          (after (F.outcome_if (stands m 5) xs 6) (x, a3) _ _ (ap (λ y. F.outcome_if y xs 6) o5 ∙ R.outcome_reads x a3 (record { piece = second_part (l ++ view_bytes v) (outcome_bytes x) h2; fit = grind (arith, f) }))
-          (after (certificate_field sizes xs a3) (span_of (certificate_bytes c) a3, a4) _ _ (certificate_reads sizes c fc (second_part ((l ++ view_bytes v) ++ outcome_bytes x) (certificate_bytes c) h3))
-          (after (F.movers_if (stands m 11) sizes xs a4) (w, e) _ _ (ap (λ y. F.movers_if y sizes xs a4) o11 ∙ movers_read v sizes w (grind (arith, f)) (second_part (((l ++ view_bytes v) ++ outcome_bytes x) ++ certificate_bytes c) (movers_bytes v w) q)) refl)))));
+          (after _ (ap (λ y. F.outcome_if y xs 6) o5 ∙ R.outcome_reads x a3 (record { piece = second_part (l ++ view_bytes v) (outcome_bytes x) h2; fit = grind (arith, f) }))
+          (after _ (certificate_reads sizes c fc (second_part ((l ++ view_bytes v) ++ outcome_bytes x) (certificate_bytes c) h3))
+          (after _ (ap (λ y. F.movers_if y sizes xs a4) o11 ∙ movers_read v sizes w (grind (arith, f)) (second_part (((l ++ view_bytes v) ++ outcome_bytes x) ++ certificate_bytes c) (movers_bytes v w) q)) refl)))));
       keeps = ap (λ (k : Certificate). Proposal s v x k w) (certificate_back sizes c fc);
     }
 
@@ -134,7 +134,7 @@ body_read sizes t (Enrol p) {xs} {e} f q = record {
   body = Enrol p;
   starts = start common K.Enrol t (Lock p) q;
   fitting = (refl, refl);
-  reads = after (F.lock_field sizes xs 4) (p, e) _ _ (R.lock_reads sizes (record { piece = sender common K.Enrol t (Lock p) q; fit = f })) refl;
+  reads = after _ (R.lock_reads sizes (record { piece = sender common K.Enrol t (Lock p) q; fit = f })) refl;
   keeps = refl;
 }
 body_read sizes t (Receipt s p) {xs} {e} f q =
@@ -147,8 +147,8 @@ body_read sizes t (Receipt s p) {xs} {e} f q =
       starts = start m K.Receipt t (Controller s) h;
       fitting = (refl, refl);
       reads =
-          after (F.controller_field sizes xs 4) (s, 5) _ _ (R.controller_reads sizes (record { piece = sender m K.Receipt t (Controller s) h; fit = grind (arith, f) }))
-          (after (F.place_field sizes xs 5) (p, e) _ _ (R.place_reads sizes (record { piece = second_part (head m K.Receipt t (Controller s)) (p.0 ∷ []) q; fit = grind (arith, f) })) refl);
+          after _ (R.controller_reads sizes (record { piece = sender m K.Receipt t (Controller s) h; fit = grind (arith, f) }))
+          (after _ (R.place_reads sizes (record { piece = second_part (head m K.Receipt t (Controller s)) (p.0 ∷ []) q; fit = grind (arith, f) })) refl);
       keeps = refl;
     }
 body_read sizes t (Order n) {xs} {e} f q =
@@ -162,8 +162,8 @@ body_read sizes t (Order n) {xs} {e} f q =
       starts = start m K.Order t Office h;
       fitting = g;
       reads =
-          after (F.office_field sizes xs 4) (tt, 5) _ _ (R.office_reads sizes (sender m K.Order t Office h))
-          (after (F.number_if (stands m 5) xs 5) (n, e) _ _ (ap (λ x. F.number_if x xs 5) o ∙ R.number_if_reads n e (record { piece = second_part (head m K.Order t Office) (number_bytes n) q; fit = f })) refl);
+          after _ (R.office_reads sizes (sender m K.Order t Office h))
+          (after _ (ap (λ x. F.number_if x xs 5) o ∙ R.number_if_reads n e (record { piece = second_part (head m K.Order t Office) (number_bytes n) q; fit = f })) refl);
       keeps = refl;
     }
 body_read sizes t (Summons s n z) {xs} {e} f q =
@@ -179,9 +179,9 @@ body_read sizes t (Summons s n z) {xs} {e} f q =
       starts = start m K.Summons t (Controller s) h;
       fitting = (refl, refl);
       reads =
-          after (F.controller_field sizes xs 4) (s, 5) _ _ (R.controller_reads sizes (record { piece = sender m K.Summons t (Controller s) h; fit = grind (arith, f) }))
-          (after (F.number_field xs 5) (n, a2) _ _ (R.number_reads (record { piece = second_part l (le4 n.0) h1; fit = grind (arith, f) }))
-          (after (F.seal_field xs a2) (z, e) _ _ (R.seal_reads (record { piece = second_part (l ++ le4 n.0) (le8 z.0) q; fit = grind (arith, f) })) refl));
+          after _ (R.controller_reads sizes (record { piece = sender m K.Summons t (Controller s) h; fit = grind (arith, f) }))
+          (after _ (R.number_reads (record { piece = second_part l (le4 n.0) h1; fit = grind (arith, f) }))
+          (after _ (R.seal_reads (record { piece = second_part (l ++ le4 n.0) (le8 z.0) q; fit = grind (arith, f) })) refl));
       keeps = refl;
     }
 body_read sizes t (Vote p n x) {xs} {e} f q =
@@ -197,9 +197,9 @@ body_read sizes t (Vote p n x) {xs} {e} f q =
       starts = start m K.Vote t (Lock p) h;
       fitting = (refl, refl);
       reads =
-          after (F.lock_field sizes xs 4) (p, 5) _ _ (R.lock_reads sizes (record { piece = sender m K.Vote t (Lock p) h; fit = grind (arith, f) }))
-          (after (F.number_field xs 5) (n, a2) _ _ (R.number_reads (record { piece = second_part l (le4 n.0) h1; fit = grind (arith, f) }))
-          (after (F.answer_field xs a2) (x, e) _ _ (R.answer_reads (second_part (l ++ le4 n.0) (answer_number x ∷ []) q)) refl));
+          after _ (R.lock_reads sizes (record { piece = sender m K.Vote t (Lock p) h; fit = grind (arith, f) }))
+          (after _ (R.number_reads (record { piece = second_part l (le4 n.0) h1; fit = grind (arith, f) }))
+          (after _ (R.answer_reads (second_part (l ++ le4 n.0) (answer_number x ∷ []) q)) refl));
       keeps = refl;
     }
 body_read sizes t (Proposal s v x c w) {xs} {e} f q = proposal_read sizes t s v x c w f q
@@ -218,11 +218,11 @@ body_read sizes t (Assent s v x d) {xs} {e} f q =
       starts = r.starts;
       fitting = g;
       reads =
-          after (F.controller_field sizes xs 4) (s, 5) _ _ r.senders
-          (after (F.view_field xs 5) (v, 6) _ _ r.views
+          after _ r.senders
+          (after _ r.views
           (pass _ 5 _ _ fl
-          (after (F.outcome_if (stands m 5) xs 6) (x, r.a3) _ _ (ap (λ x. F.outcome_if x xs 6) o ∙ r.outcomes)
-          (after (F.digest_field xs r.a3) (d, e) _ _ r.digests refl))));
+          (after _ (ap (λ x. F.outcome_if x xs 6) o ∙ r.outcomes)
+          (after _ r.digests refl))));
       keeps = refl;
     }
 body_read sizes t (Confirm s v x d) {xs} {e} f q =
@@ -239,10 +239,10 @@ body_read sizes t (Confirm s v x d) {xs} {e} f q =
       starts = r.starts;
       fitting = g;
       reads =
-          after (F.controller_field sizes xs 4) (s, 5) _ _ r.senders
-          (after (F.view_field xs 5) (v, 6) _ _ r.views
-          (after (F.outcome_if (stands m 5) xs 6) (x, r.a3) _ _ (ap (λ x. F.outcome_if x xs 6) o ∙ r.outcomes)
-          (after (F.digest_field xs r.a3) (d, e) _ _ r.digests refl)));
+          after _ r.senders
+          (after _ r.views
+          (after _ (ap (λ x. F.outcome_if x xs 6) o ∙ r.outcomes)
+          (after _ r.digests refl)));
       keeps = refl;
     }
 body_read sizes t (Result s x) {xs} {e} f q =
@@ -257,8 +257,8 @@ body_read sizes t (Result s x) {xs} {e} f q =
       starts = start m K.Result t (Controller s) h;
       fitting = g;
       reads =
-          after (F.controller_field sizes xs 4) (s, 5) _ _ (R.controller_reads sizes (record { piece = sender m K.Result t (Controller s) h; fit = grind (arith, f) }))
-          (after (F.outcome_if (stands m 5) xs 5) (x, e) _ _ (ap (λ x. F.outcome_if x xs 5) o ∙ R.outcome_reads x e (record { piece = second_part l (outcome_bytes x) q; fit = grind (arith, f) })) refl);
+          after _ (R.controller_reads sizes (record { piece = sender m K.Result t (Controller s) h; fit = grind (arith, f) }))
+          (after _ (ap (λ x. F.outcome_if x xs 5) o ∙ R.outcome_reads x e (record { piece = second_part l (outcome_bytes x) q; fit = grind (arith, f) })) refl);
       keeps = refl;
     }
 body_read sizes t (Move s v b) {xs} {e} f q =
@@ -278,10 +278,10 @@ body_read sizes t (Move s v b) {xs} {e} f q =
       starts = start m K.Move t (Controller s) h;
       fitting = g;
       reads =
-          after (F.controller_field sizes xs 4) (s, 5) _ _ (R.controller_reads sizes (record { piece = sender m K.Move t (Controller s) h; fit = fs }))
-          (after (F.view_field xs 5) (v, 6) _ _ (R.view_reads (second_part l (view_bytes v) h1))
+          after _ (R.controller_reads sizes (record { piece = sender m K.Move t (Controller s) h; fit = fs }))
+          (after _ (R.view_reads (second_part l (view_bytes v) h1))
           (pass _ 5 _ _ fz
-          (after (grounds_if (stands m 9) (stands m 5) sizes t v xs 6) (w.spans, e) _ _ (ap₂ (λ x y. grounds_if x y sizes t v xs 6) o9 o5 ∙ w.reads) refl)));
+          (after _ (ap₂ (λ x y. grounds_if x y sizes t v xs 6) o9 o5 ∙ w.reads) refl)));
       keeps = ap (Move s v) w.keeps;
     }
 
@@ -300,13 +300,13 @@ letter_read sizes xs t b z e ft r q =
     let p4 : Piece xs 3 ((t.0 % 256) ∷ []) 4 = second_part (kind_number k ∷ []) ((t.0 % 256) ∷ []) p2 in
     let p1' : Piece xs 0 (le2 m) 2 = subst (λ n. Piece xs 0 ((m % 256) ∷ n ∷ []) 2) (sym high) p1 in
     let w : read sizes xs ≡ Ok (letter t r.body z) =
-    after (F.map_field xs 0) (m, 2) _ _ (after (F.two xs 0) (m, 2) _ _ (two_reads p1' (omega arith)) (cond-true _ _ _ r.fitting.0))
-    (after (F.kind_field xs 2) (k, 3) _ _ (R.kind_reads k p3)
-    (after (fit k m) tt _ _ (cond-true (fits k m) _ _ r.fitting.1)
-    (after (F.change_field xs 3) (t, 4) _ _ (R.change_reads (record { piece = p4; fit = ft }))
-    (after (body_field sizes t m k xs 4) (r.body, e) _ _ r.reads
-    (after (F.seal_field xs e) (z, length xs) _ _ (R.seal_reads q)
-    (after (F.ended xs (length xs)) tt _ _ (cond-true (leb (length xs) (length xs)) _ _ (le-leb _ _ (omega arith))) refl)))))) in
+    after _ (after _ (two_reads p1' (omega arith)) (cond-true _ _ _ r.fitting.0))
+    (after _ (R.kind_reads k p3)
+    (after _ (cond-true (fits k m) _ _ r.fitting.1)
+    (after _ (R.change_reads (record { piece = p4; fit = ft }))
+    (after _ r.reads
+    (after _ (R.seal_reads q)
+    (after _ (cond-true (leb (length xs) (length xs)) _ _ (le-leb _ _ (omega arith))) refl)))))) in
     ap kept_result w ∙ ap (λ (y : Body Certificate Basis). Ok (letter t y z)) r.keeps
 
 pub letters_are_read_back : LettersAreReadBack

@@ -86,15 +86,15 @@ basis_fields_lem : (sizes : Sizes) (t : Change) (v : View) (b : Basis) {xs : Lis
 basis_fields_lem sizes t v b {xs} {a} {e} g p =
     let s = apart b p in
     let m = map_of is_some b.assents in
-    after (basis_view_field v xs a) (b.view, a + 1) _ _ (after (view_field xs a) (b.view, a + 1) _ _ (view_reads s.view_piece) (pass _ a _ _ g.below refl))
-    (after (assenters_field sizes t b.view xs (a + 1)) (m, s.a2) _ _
-    (after (two xs (a + 1)) (m, s.a2) _ _ (two_reads s.seats_piece (seats_below b.assents g.long))
+    after _ (after _ (view_reads s.view_piece) (pass _ a _ _ g.below refl))
+    (after _
+    (after _ (two_reads s.seats_piece (seats_below b.assents g.long))
     (pass _ (a + 1) _ _ (and_from _ _ (eq-eqb _ _ (map_low m (seat_count sizes) g.low)) (and_from _ _ (eq-eqb _ _ g.many) g.others)) refl))
-    (after (seal_field xs s.a2) (b.leader_seal, s.a3) _ _ (seal_reads (record { piece = s.seal_piece; fit = g.word }))
+    (after _ (seal_reads (record { piece = s.seal_piece; fit = g.word }))
     (seals_reads (2 * sizes.faults) s.rows_piece (rows_length b.assents ∙ ap (λ n. n * 8) g.many))))
 
 pub basis_reads : (sizes : Sizes) (t : Change) (v : View) (b : Basis) {xs : List ℕ} {a e : ℕ} → Grounded sizes t v b → Piece xs a (basis_bytes b) e → basis_field sizes t v xs a ≡ Ok (span_of (basis_bytes b) a, e)
-basis_reads sizes t v b {xs} {a} {e} g p = after (basis_fields sizes t v xs a) (tt, e) _ _ (basis_fields_lem sizes t v b g p) (ap (λ bs. Ok (span_of bs a, e)) (between_is p))
+basis_reads sizes t v b {xs} {a} {e} g p = after _ (basis_fields_lem sizes t v b g p) (ap (λ bs. Ok (span_of bs a, e)) (between_is p))
 
 -- the parts of a move that show a basis
 abbrev pub spans_of : Basis → ℕ → ℕ → Spans
@@ -224,9 +224,9 @@ grounds_read sizes t v (Some b) {xs} {a} {e} f p =
     record {
       spans = Some (spans_of b a1 a2);
       reads =
-          after (outcome_if (changes b.outcome) xs a) (b.outcome, a1) _ _ (outcome_reads b.outcome a1 (record { piece = q3; fit = g.outcome_fit }))
-          (after (basis_field sizes t v xs a1) (span_of (basis_bytes b) a1, a2) _ _ (basis_reads sizes t v b g q4)
-          (after (certificate_field sizes xs a2) (span_of (certificate_bytes b.certificate) a2, e) _ _ (certificate_reads sizes b.certificate g.certificate_fit q2) refl));
+          after _ (outcome_reads b.outcome a1 (record { piece = q3; fit = g.outcome_fit }))
+          (after _ (basis_reads sizes t v b g q4)
+          (after _ (certificate_reads sizes b.certificate g.certificate_fit q2) refl));
       keeps = ap Some (basis_back sizes t v b a1 a2 g);
     }
 
@@ -255,12 +255,9 @@ spans_found sizes t v numbered xs a x a1 e s a2 k (p, n) q r =
       same = λ d f. same_certificate sizes xs a2 (k, e) r d f;
     }
 
-none_certified : (c : Span) → ◌≡◌ {A = Option Span} None (Some c) → certificate_bytes (certificate_in c.bytes) ≡ c.bytes
-none_certified c e = cc
-
 pub grounds_found : (sizes : Sizes) (t : Change) (v : View) (given numbered : Bool) (xs : List ℕ) → Bytes xs → (a : ℕ) → a ≤ length xs → (p : Option Spans × ℕ) → grounds_if given numbered sizes t v xs a ≡ Ok p → GroundsFound sizes t v given numbered xs a p
 grounds_found sizes t v false numbered xs bytes a h p e = subst (GroundsFound sizes t v false numbered xs a) (ok_same e)
-    (record { piece = nothing xs a h; fit = refl; some = refl; outcome = λ f. cc; same = λ c f. none_certified c f })
+    (record { piece = nothing xs a h; fit = refl; some = refl; outcome = λ f. cc; same = λ c f. cc })
 grounds_found sizes t v true numbered xs bytes a h p e =
     found _ p (outcome_found numbered xs bytes a h) e (λ q1 s1 d1.
     found _ p (basis_found sizes t v xs bytes q1.1) d1 (λ q2 s2 d2.

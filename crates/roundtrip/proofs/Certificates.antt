@@ -75,14 +75,14 @@ pub seals_found : (n : ℕ) (xs : List ℕ) (a : ℕ) (p : Unit {0} × ℕ) → 
 seals_found n xs a p e = let c = chosen _ _ _ _ e in (leb-true _ _ c.0, ap (λ (q : Unit {0} × ℕ). q.1) c.1)
 
 enrolled_reads : (sizes : Sizes) {xs : List ℕ} {a b n : ℕ} → Piece xs a (n ∷ []) b → n < 2 ^ sizes.locks → enrolled_field sizes xs a ≡ Ok (n, b)
-enrolled_reads sizes {xs} {a} {b} {n} p h = after (byte xs a) (n, b) _ _ (byte_reads p) (pass _ a _ _ (eq-eqb _ _ (map_low n sizes.locks h)) refl)
+enrolled_reads sizes {xs} {a} {b} {n} p h = after _ (byte_reads p) (pass _ a _ _ (eq-eqb _ _ (map_low n sizes.locks h)) refl)
 
 places_reads : (of : ℕ) {xs : List ℕ} {a b n : ℕ} → Piece xs a (n ∷ []) b → bit_and n of ≡ n → places_field of xs a ≡ Ok (n, b)
-places_reads of {xs} {a} {b} {n} p h = after (byte xs a) (n, b) _ _ (byte_reads p) (pass _ a _ _ (eq-eqb _ _ h) refl)
+places_reads of {xs} {a} {b} {n} p h = after _ (byte_reads p) (pass _ a _ _ (eq-eqb _ _ h) refl)
 
 flag_reads : (voted : ℕ) (o : Option KeyNumber) {xs : List ℕ} {a b : ℕ} → Piece xs a (order_flag o ∷ []) b → (o ≡ None → voted ≡ 0) → flag_field voted xs a ≡ Ok (is_some o, b)
-flag_reads voted None {xs} {a} {b} p h = after (byte xs a) (0, b) _ _ (byte_reads p) (pass _ a _ _ (eq-eqb voted 0 (h refl)) refl)
-flag_reads voted (Some n) {xs} {a} {b} p h = after (byte xs a) (1, b) _ _ (byte_reads p) refl
+flag_reads voted None {xs} {a} {b} p h = after _ (byte_reads p) (pass _ a _ _ (eq-eqb voted 0 (h refl)) refl)
+flag_reads voted (Some n) {xs} {a} {b} p h = after _ (byte_reads p) refl
 
 module _ (xs : List ℕ) (bytes : Bytes xs) (a : ℕ) where
   enrolled_found : (sizes : Sizes) (p : ℕ × ℕ) → enrolled_field sizes xs a ≡ Ok p → Piece xs a (p.0 ∷ []) p.1 × (p.0 < 256) × (p.0 < 2 ^ sizes.locks)
@@ -161,13 +161,13 @@ fields_read sizes c {xs} {a} {b} f p =
     let s = apart c p in
     let e = map_of is_some c.enrolled in
     let v = map_of is_some c.votes in
-    after (enrolled_field sizes xs a) (e, a + 1) _ _ (enrolled_reads sizes s.enrolled_piece f.low)
-    (after (places_field e xs (a + 1)) (v, a + 1 + 1) _ _ (places_reads e s.voted_piece (voted_within c.enrolled c.votes f.inside))
-    (after (places_field v xs (a + 1 + 1)) (map_of ready_vote c.votes, a + 1 + 1 + 1) _ _ (places_reads v s.ready_piece (ready_within c.votes))
-    (after (flag_field v xs (a + 1 + 1 + 1)) (is_some c.order.number, s.a4) _ _ (flag_reads v c.order.number s.flag_piece (λ e. grind (arith, nat_tests, f.unvoted, e)))
-    (after (number_if (is_some c.order.number) xs s.a4) (c.order.number, s.a5) _ _ (number_if_reads c.order.number s.a5 (record { piece = s.number_piece; fit = f.number }))
-    (after (seal_field xs s.a5) (c.order.seal, s.a6) _ _ (seal_reads (record { piece = s.seal_piece; fit = f.word }))
-    (after (seals (ones e) xs s.a6) (tt, s.a7) _ _ (seals_reads (ones e) s.enrolments_piece (rows_length c.enrolled))
+    after _ (enrolled_reads sizes s.enrolled_piece f.low)
+    (after _ (places_reads e s.voted_piece (voted_within c.enrolled c.votes f.inside))
+    (after _ (places_reads v s.ready_piece (ready_within c.votes))
+    (after _ (flag_reads v c.order.number s.flag_piece (λ e. grind (arith, nat_tests, f.unvoted, e)))
+    (after _ (number_if_reads c.order.number s.a5 (record { piece = s.number_piece; fit = f.number }))
+    (after _ (seal_reads (record { piece = s.seal_piece; fit = f.word }))
+    (after _ (seals_reads (ones e) s.enrolments_piece (rows_length c.enrolled))
     (seals_reads (ones v) s.votes_piece (rows_length (vote_seals c.votes) ∙ ap (λ m. ones m * 8) (seals_map c.votes)))))))))
 
 -- a part of a letter that begins at `a`
@@ -175,7 +175,7 @@ abbrev pub span_of : List ℕ → ℕ → Span
 span_of bs a = record { bytes = bs; offset = a }
 
 pub certificate_reads : (sizes : Sizes) (c : Certificate) {xs : List ℕ} {a b : ℕ} → Fits sizes c → Piece xs a (certificate_bytes c) b → certificate_field sizes xs a ≡ Ok (span_of (certificate_bytes c) a, b)
-certificate_reads sizes c {xs} {a} {b} f p = after (certificate_fields sizes xs a) (tt, b) _ _ (fields_read sizes c f p) (ap (λ bs. Ok (span_of bs a, b)) (between_is p))
+certificate_reads sizes c {xs} {a} {b} f p = after _ (fields_read sizes c f p) (ap (λ bs. Ok (span_of bs a, b)) (between_is p))
 
 pub rows_at_lem : (n map : ℕ) (rs : List (Option Seal)) (xs : List ℕ) (a k b : ℕ) → length rs ≡ n → map_of is_some rs ≡ map → a ≡ k → rows_fit rs ≡ true → Piece xs a (row_bytes rs) b → rows_at n map xs k ≡ rs
 rows_at_lem n map rs xs a k b l m e f p = simp (← l, ← m, ← e) (rows_read rs f p)

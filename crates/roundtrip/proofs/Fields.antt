@@ -180,7 +180,7 @@ number_found xs bytes a p e = picked_stands four le4 (λ n. n < 4294967296) key_
 
 pub number_if_reads : {xs : List ℕ} {a : ℕ} (n : Option KeyNumber) (b : ℕ) → Stands number_bytes number_fits xs a (n, b) → F.number_if (is_some n) xs a ≡ Ok (n, b)
 number_if_reads {xs} {a} None b s = ap (λ k. Ok (None, k)) (omega (arith, s.piece.ends))
-number_if_reads {xs} {a} (Some n) b s = after (F.number_field xs a) (n, b) _ _ (number_reads (record { piece = s.piece; fit = s.fit })) refl
+number_if_reads {xs} {a} (Some n) b s = after _ (number_reads (record { piece = s.piece; fit = s.fit })) refl
 
 pub number_if_found : (t : Bool) (xs : List ℕ) → Bytes xs → (a : ℕ) → a ≤ length xs → (p : Option KeyNumber × ℕ) → F.number_if t xs a ≡ Ok p → Stands number_bytes number_fits xs a p × (t ≡ is_some p.0)
 number_if_found false xs bytes a h p e = subst (λ (q : Option KeyNumber × ℕ). Stands number_bytes number_fits xs a q × (false ≡ is_some q.0)) (ok_same e) (record { piece = nothing xs a h; fit = refl }, refl)
@@ -200,7 +200,7 @@ changes x = is_some (outcome_number x)
 
 pub outcome_reads : {xs : List ℕ} {a : ℕ} (x : Outcome) (b : ℕ) → Stands outcome_bytes outcome_fits xs a (x, b) → F.outcome_if (changes x) xs a ≡ Ok (x, b)
 outcome_reads {xs} {a} Keep b s = ap (λ k. Ok (Keep, k)) (omega (arith, s.piece.ends))
-outcome_reads {xs} {a} (Number n) b s = after (F.number_field xs a) (n, b) _ _ (number_reads (record { piece = s.piece; fit = s.fit })) refl
+outcome_reads {xs} {a} (Number n) b s = after _ (number_reads (record { piece = s.piece; fit = s.fit })) refl
 
 pub outcome_found : (t : Bool) (xs : List ℕ) → Bytes xs → (a : ℕ) → a ≤ length xs → (p : Outcome × ℕ) → F.outcome_if t xs a ≡ Ok p → Stands outcome_bytes outcome_fits xs a p × (t ≡ changes p.0)
 outcome_found false xs bytes a h p e = subst (λ (q : Outcome × ℕ). Stands outcome_bytes outcome_fits xs a q × (false ≡ changes q.0)) (ok_same e) (record { piece = nothing xs a h; fit = refl }, refl)

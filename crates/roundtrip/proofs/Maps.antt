@@ -64,7 +64,7 @@ movers_read_by true sizes s {xs} {a} {e} f p = ap₂ (λ (n k : ℕ). Ok (seat_s
 movers_read_by false sizes s {xs} {a} {e} f p =
     let g = and_parts (ltb s.0 (2 ^ seat_count sizes)) (eqb (ones s.0) (quorum_of sizes)) f in
     let h = ltb-true _ _ g.0 in
-    after (F.two xs a) (s.0, e) _ _ (two_reads p (seats_below sizes s.0 h)) (pass _ a _ _ (and_from _ _ (eq-eqb _ _ (map_low s.0 (seat_count sizes) h)) g.1) refl)
+    after _ (two_reads p (seats_below sizes s.0 h)) (pass _ a _ _ (and_from _ _ (eq-eqb _ _ (map_low s.0 (seat_count sizes) h)) g.1) refl)
 
 pub movers_read : (v : View) (sizes : Sizes) (s : SeatSet) {xs : List ℕ} {a e : ℕ} → movers_fit sizes v s.0 ≡ true → Piece xs a (movers_bytes v s) e → F.movers_if (not (eqb v.0 0)) sizes xs a ≡ Ok (s, e)
 movers_read v sizes s f p = movers_read_by (eqb v.0 0) sizes s f p

@@ -35,9 +35,6 @@ record BodyFound (sizes : Sizes) (t : Change) (xs : List ℕ) (p : Body Span Spa
   fit : body_fits sizes t (keep_body p.0) ≡ true
   same : (c : Span) → certificate_part p.0 ≡ Some c → certificate_bytes (certificate_in c.bytes) ≡ c.bytes
 
-no_certificate : (c : Span) → ◌≡◌ {A = Option Span} None (Some c) → certificate_bytes (certificate_in c.bytes) ≡ c.bytes
-no_certificate c e = cc
-
 moved_is : (l moved z : Bool) → (l && cond moved (not z) z) ≡ true → (l ≡ true) × (moved ≡ not z)
 moved_is l moved z e = grind arith
 
@@ -52,7 +49,7 @@ module _ (sizes : Sizes) (t : Change) (m : ℕ) (xs : List ℕ) (bytes : Bytes x
       subst (BodyFound sizes t xs) (ok_same d1) (record {
         piece = join (starts K.Enrol common (eqb-true _ _ f) b) s1.piece;
         fit = s1.fit;
-        same = no_certificate;
+        same = λ c e. cc;
       }))
   body_found K.Receipt b f e =
       found _ p (R.controller_found sizes xs bytes o) e (λ q1 s1 d1.
@@ -60,7 +57,7 @@ module _ (sizes : Sizes) (t : Change) (m : ℕ) (xs : List ℕ) (bytes : Bytes x
       subst (BodyFound sizes t xs) (ok_same d2) (record {
         piece = join (join (starts K.Receipt (common + bit 3) (eqb-true _ _ f) b) s1.piece) s2.piece;
         fit = and_from _ _ s1.fit s2.fit;
-        same = no_certificate;
+        same = λ c e. cc;
       })))
   body_found K.Order b f e =
       found _ p (R.office_found sizes xs bytes o) e (λ q1 s1 d1.
@@ -68,7 +65,7 @@ module _ (sizes : Sizes) (t : Change) (m : ℕ) (xs : List ℕ) (bytes : Bytes x
       subst (BodyFound sizes t xs) (ok_same d2) (record {
         piece = join (join (starts K.Order _ (order_map_lem m q2.0 small f s2.1) b) s1) s2.0.piece;
         fit = s2.0.fit;
-        same = no_certificate;
+        same = λ c e. cc;
       })))
   body_found K.Summons b f e =
       found _ p (R.controller_found sizes xs bytes o) e (λ q1 s1 d1.
@@ -77,7 +74,7 @@ module _ (sizes : Sizes) (t : Change) (m : ℕ) (xs : List ℕ) (bytes : Bytes x
       subst (BodyFound sizes t xs) (ok_same d3) (record {
         piece = join (join (join (starts K.Summons (common + bit 5 + bit 8) (eqb-true _ _ f) b) s1.piece) s2.piece) s3.piece;
         fit = and_from _ _ s1.fit (and_from _ _ s2.fit s3.fit);
-        same = no_certificate;
+        same = λ c e. cc;
       }))))
   body_found K.Vote b f e =
       found _ p (R.lock_found sizes xs bytes o) e (λ q1 s1 d1.
@@ -86,7 +83,7 @@ module _ (sizes : Sizes) (t : Change) (m : ℕ) (xs : List ℕ) (bytes : Bytes x
       subst (BodyFound sizes t xs) (ok_same d3) (record {
         piece = join (join (join (starts K.Vote (common + bit 5 + bit 6) (eqb-true _ _ f) b) s1.piece) s2.piece) s3;
         fit = and_from _ _ s1.fit s2.fit;
-        same = no_certificate;
+        same = λ c e. cc;
       }))))
   body_found K.Proposal b f e =
       found _ p (R.controller_found sizes xs bytes o) e (λ q1 s1 d1.
@@ -115,7 +112,7 @@ module _ (sizes : Sizes) (t : Change) (m : ℕ) (xs : List ℕ) (bytes : Bytes x
       subst (BodyFound sizes t xs) (ok_same d4) (record {
         piece = join (join (join (join b' s1.piece) s2.piece) s3.0.piece) s4.piece;
         fit = and_from _ _ s1.fit (and_from _ _ s2.fit (and_from _ _ v2 (and_from _ _ s3.0.fit s4.fit)));
-        same = no_certificate;
+        same = λ c e. cc;
       })))))
   body_found K.Confirm b f e =
       found _ p (R.controller_found sizes xs bytes o) e (λ q1 s1 d1.
@@ -126,7 +123,7 @@ module _ (sizes : Sizes) (t : Change) (m : ℕ) (xs : List ℕ) (bytes : Bytes x
       subst (BodyFound sizes t xs) (ok_same d4) (record {
         piece = join (join (join (join b' s1.piece) s2.piece) s3.0.piece) s4.piece;
         fit = and_from _ _ s1.fit (and_from _ _ s2.fit (and_from _ _ s3.0.fit s4.fit));
-        same = no_certificate;
+        same = λ c e. cc;
       })))))
   body_found K.Result b f e =
       found _ p (R.controller_found sizes xs bytes o) e (λ q1 s1 d1.
@@ -134,7 +131,7 @@ module _ (sizes : Sizes) (t : Change) (m : ℕ) (xs : List ℕ) (bytes : Bytes x
       subst (BodyFound sizes t xs) (ok_same d2) (record {
         piece = join (join (starts K.Result _ (order_map_lem m (outcome_number q2.0) small f s2.1) b) s1.piece) s2.0.piece;
         fit = and_from _ _ s1.fit s2.0.fit;
-        same = no_certificate;
+        same = λ c e. cc;
       })))
   body_found K.Move b f e =
       found _ p (R.controller_found sizes xs bytes o) e (λ q1 s1 d1.

@@ -15,8 +15,8 @@ pub ok_same : {A : Type 0} {x y : A} → ◌≡◌ {A = Result A Refusal} (Ok x)
 ok_same e = cc
 
 module _ {A B : Type 0} where
-  pub after : (r : Result A Refusal) (x : A) (f : A → Result B Refusal) (y : Result B Refusal) → r ≡ Ok x → f x ≡ y → (r >>= f) ≡ y
-  after r x f y e h = ap (λ s. s >>= f) e ∙ h
+  pub after : {r : Result A Refusal} {x : A} {y : Result B Refusal} (f : A → Result B Refusal) → r ≡ Ok x → f x ≡ y → (r >>= f) ≡ y
+  after f e h = ap (λ s. s >>= f) e ∙ h
 
   -- what a step gave, and what came of it
   pub came : (r : Result A Refusal) (f : A → Result B Refusal) (y : B) → (r >>= f) ≡ Ok y → (x : A) × (r ≡ Ok x) × (f x ≡ Ok y)
@@ -101,7 +101,7 @@ picked r o xs at = do
 
 module _ {A : Type 0} (r : List ℕ → ℕ → Read ℕ) (xs : List ℕ) (a : ℕ) where
   pub picked_reads : (o : ℕ → Option A) (n : ℕ) (v : A) (b : ℕ) → r xs a ≡ Ok (n, b) → o n ≡ Some v → picked r o xs a ≡ Ok (v, b)
-  picked_reads o n v b e f = after (r xs a) (n, b) _ _ e (ap (λ s. ranged s a >>= (λ (x : A). Ok (x, b))) f)
+  picked_reads o n v b e f = after _ e (ap (λ s. ranged s a >>= (λ (x : A). Ok (x, b))) f)
 
   pub picked_found : (o : ℕ → Option A) (p : A × ℕ) → picked r o xs a ≡ Ok p → (n : ℕ) × (r xs a ≡ Ok (n, p.1)) × (o n ≡ Some p.0)
   picked_found o p e =
