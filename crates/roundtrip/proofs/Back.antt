@@ -30,8 +30,8 @@ use Rattle.letters.specs.Sorts.{kind_number, answer_number, stands}
 use Rattle.letters.specs.Statements.{outcome_number}
 use Rattle.reading.specs.Fields as F
 use Rattle.reading.specs.Parts.{Span, Spans}
-use Rattle.reading.specs.Spans.{certificate_field, grounds_if}
-use Rattle.reading.specs.Form.{fits, fit, proposal_view_fits, body_field, read}
+use Rattle.reading.specs.Spans.{grounds_if}
+use Rattle.reading.specs.Form.{fits, proposal_view_fits, body_field, read}
 use Rattle.kept.specs.Kept.{certificate_in, basis_in}
 use Rattle.roundtrip.specs.Laws.{kept_result, LettersAreReadBack}
 use Rattle.roundtrip.proofs.Pieces.{Piece, first_part, second_part, whole}
@@ -171,7 +171,6 @@ body_read sizes t (Summons s n z) {xs} {e} f q =
     let l = head m K.Summons t (Controller s) in
     let h1 = first_part (l ++ le4 n.0) (le8 z.0) q in
     let h = first_part l (le4 n.0) h1 in
-    let a2 = 0 + length (l ++ le4 n.0) in
     record {
       map = m;
       kind = K.Summons;
@@ -189,7 +188,6 @@ body_read sizes t (Vote p n x) {xs} {e} f q =
     let l = head m K.Vote t (Lock p) in
     let h1 = first_part (l ++ le4 n.0) (answer_number x ∷ []) q in
     let h = first_part l (le4 n.0) h1 in
-    let a2 = 0 + length (l ++ le4 n.0) in
     record {
       map = m;
       kind = K.Vote;

@@ -18,9 +18,9 @@ use Rattle.letters.specs.Certificates.{certificate_bytes}
 use Rattle.letters.specs.Layout.{basis_bytes, grounds_bytes}
 use Rattle.letters.specs.Ranges.{is_word, rows_fit, certificate_fits, basis_fits, grounds_fit}
 use Rattle.letters.specs.Sorts.{seal, stands}
-use Rattle.reading.specs.Fields.{two, view_field, outcome_if, seal_field}
+use Rattle.reading.specs.Fields.{two, view_field}
 use Rattle.reading.specs.Parts.{Span, Spans}
-use Rattle.reading.specs.Spans.{certificate_field, basis_view_field, assenters_field, basis_fields, basis_field, grounds_if}
+use Rattle.reading.specs.Spans.{basis_view_field, assenters_field, basis_fields, basis_field, grounds_if}
 use Rattle.kept.specs.Kept.{certificate_in, basis_in}
 use Rattle.roundtrip.specs.Laws.{Bytes, grounds_certificate}
 use Rattle.roundtrip.proofs.Pieces.{Piece, join, first_part, second_part, nothing, whole, between_is, two_at_lem, eight_at_lem}

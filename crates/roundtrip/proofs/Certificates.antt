@@ -15,7 +15,7 @@ use Rattle.letters.specs.Bytes.{le4, le8, four_at, eight_at, map_of, row_bytes, 
 use Rattle.letters.specs.Certificates.{ready_vote, order_flag, number_bytes, vote_seals, certificate_bytes}
 use Rattle.letters.specs.Ranges.{is_word, number_fits, rows_fit, votes_within, cancel_unvoted, certificate_fits}
 use Rattle.letters.specs.Sorts.{seal}
-use Rattle.reading.specs.Fields.{byte, seals, number_if, seal_field}
+use Rattle.reading.specs.Fields.{byte, seals}
 use Rattle.reading.specs.Parts.{Span}
 use Rattle.reading.specs.Spans.{enrolled_field, places_field, flag_field, certificate_fields, certificate_field}
 use Rattle.kept.specs.Kept.{votes_of, certificate_in}

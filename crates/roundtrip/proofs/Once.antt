@@ -1,5 +1,5 @@
 -- What is read has the bytes of the letter kept, and is within range.
-use Rattle.std.proofs.Common.{◌≡◌, ℕ, ◌+◌, ◌/◌, ◌%◌, Bool, true, cond, not, ◌&&◌, eqb, ltb, leb, List, [], ◌∷◌, length, Some, None, Ok, Option, sym, ap, subst, arith}
+use Rattle.std.proofs.Common.{◌≡◌, ℕ, ◌+◌, ◌/◌, ◌%◌, Bool, true, cond, not, ◌&&◌, eqb, ltb, leb, List, [], ◌∷◌, length, Some, Ok, sym, ap, subst, arith}
 use Rattle.std.proofs.lemmas.Bool.{leb-true, ltb-true, eqb-true, and_parts, and_from}
 use Rattle.terms.specs.declared.numbers.Change.{Change}
 use Rattle.terms.specs.declared.sizes.Sizes.{Sizes}
@@ -17,7 +17,6 @@ use Rattle.letters.specs.Sorts.{stands}
 use Rattle.letters.specs.Statements.{outcome_number}
 use Rattle.reading.specs.Fields as F
 use Rattle.reading.specs.Parts.{Span, Spans}
-use Rattle.reading.specs.Spans.{certificate_field, grounds_if}
 use Rattle.reading.specs.Form.{fits, fit, leads, proposal_view_fits, body_field, read}
 use Rattle.kept.specs.Kept.{certificate_in, basis_in, kept}
 use Rattle.roundtrip.specs.Laws.{Bytes, certificate_part, OneForm, WhatIsReadIsInRange, KeptCertificateHasTheSameBytes, KeptCertificateHasTheSameDigest}
