@@ -35,14 +35,14 @@ fn stage_at<B: Board>(
 
 // Stages the number at every place, and says whether all took it. Here and below the places go by number: what
 // the board has become is told by how many places are done.
+#[tactic(auto, unfolding(crate::specs::Everywhere::staged_to, crate::specs::Everywhere::all_took))]
 fn stage_everywhere<B: Board>(rt: &impl Print, board: &mut B, number: KeyNumber) -> io::Result<bool>
     ensures { elim result [ Ok all ↦ (all ≡ Everywhere.took (B.meaning board.old) number) × (B.meaning board.new ≡ Everywhere.staged (B.meaning board.old) number) | Err e ↦ Unit {0} ] }
 {
     let mut all = true;
     for n in 0..board.places() {
         if let Some(place) = Place::new(n) {
-            let took = stage_at(rt, board, place, number)?;
-            all = all && took;
+            all &= stage_at(rt, board, place, number)?;
         }
     }
     Ok(all)
@@ -61,6 +61,7 @@ fn take_over_at<B: Board>(rt: &impl Print, board: &mut B, place: Place) -> io::R
     println!(rt; "Place {p} takes over and shows {force}.")
 }
 
+#[tactic(auto, unfolding(crate::specs::Everywhere::taken_over_to))]
 fn take_over_everywhere<B: Board>(rt: &impl Print, board: &mut B) -> io::Result<()>
     ensures { elim result [ Ok u ↦ B.meaning board.new ≡ Everywhere.taken_over (B.meaning board.old) | Err e ↦ Unit {0} ] }
 {
@@ -84,6 +85,7 @@ fn drop_at<B: Board>(rt: &impl Print, board: &mut B, place: Place) -> io::Result
     }
 }
 
+#[tactic(auto, unfolding(crate::specs::Everywhere::dropped_to))]
 fn drop_everywhere<B: Board>(rt: &impl Print, board: &mut B) -> io::Result<()>
     ensures { elim result [ Ok u ↦ B.meaning board.new ≡ Everywhere.dropped (B.meaning board.old) | Err e ↦ Unit {0} ] }
 {

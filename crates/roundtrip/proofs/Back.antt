@@ -1,7 +1,8 @@
 -- A letter within range is read back from its bytes.
-use Rattle.std.proofs.Common.{◌≡◌, ℕ, ◌+◌, ◌/◌, ◌%◌, Bool, true, false, cond, not, ◌&&◌, eqb, ltb, leb, List, [], ◌∷◌, ◌++◌, length, Ok, sym, refl, ap, ◌∙◌, subst, ap₂, arith}
+use Rattle.std.proofs.Common.{◌≡◌, ℕ, ◌+◌, ◌/◌, ◌%◌, true, not, eqb, leb, List, [], ◌∷◌, ◌++◌, length, Ok, sym, refl, ap, ◌∙◌, subst, ap₂, arith}
 use Rattle.std.proofs.lemmas.Nat.{mod_below}
-use Rattle.std.proofs.lemmas.Bool.{le-leb, ltb-true, lt-ltb, eqb-true, cond-true, and_parts, and_from}
+use Rattle.std.proofs.lemmas.Bool.Decides.{nat_tests}
+use Rattle.std.proofs.lemmas.Bool.{le-leb, ltb-true, cond-true, and_parts}
 use Rattle.terms.specs.declared.numbers.Change.{Change}
 use Rattle.terms.specs.declared.numbers.Seat.{Seat}
 use Rattle.terms.specs.declared.numbers.View.{View}
@@ -24,13 +25,13 @@ use Rattle.letters.specs.Bodies.{retold, letter}
 use Rattle.letters.specs.Bytes.{le2, le4, le8}
 use Rattle.letters.specs.Certificates.{number_bytes, certificate_bytes}
 use Rattle.letters.specs.Layout.{bit, common, number_bit, head, viewed_bytes, movers_bytes, grounds_bytes, move_map, body_bytes, layout}
-use Rattle.letters.specs.Ranges.{is_byte, is_word, seat_fits, place_fits, leads, certificate_fits, movers_fit, grounds_fit, body_fits}
+use Rattle.letters.specs.Ranges.{is_byte, is_word, seat_fits, leads, grounds_fit, body_fits}
 use Rattle.letters.specs.Sorts.{kind_number, answer_number, stands}
 use Rattle.letters.specs.Statements.{outcome_number}
 use Rattle.reading.specs.Fields as F
 use Rattle.reading.specs.Parts.{Span, Spans}
-use Rattle.reading.specs.Spans.{certificate_field, grounds_if}
-use Rattle.reading.specs.Form.{fits, fit, proposal_view_fits, body_field, read}
+use Rattle.reading.specs.Spans.{grounds_if}
+use Rattle.reading.specs.Form.{fits, proposal_view_fits, body_field, read}
 use Rattle.kept.specs.Kept.{certificate_in, basis_in}
 use Rattle.roundtrip.specs.Laws.{kept_result, LettersAreReadBack}
 use Rattle.roundtrip.proofs.Pieces.{Piece, first_part, second_part, whole}
@@ -66,11 +67,8 @@ module _ (m : ℕ) (k : Kind) (t : Change) (q : Party) {xs : List ℕ} {e : ℕ}
   sender : Piece xs 4 (party_bytes q) e
   sender = second_part (begin m k t) (party_bytes q) p
 
-exact : (k : Kind) (m : ℕ) → ltb m 8192 ≡ true → stands m 0 ≡ true → fits k m ≡ true → MapFits k m
-exact k m a b c = record { small = a; first = b; fit = c }
-
 leader_fits : (sizes : Sizes) (t : Change) (v : View) (s : Seat) → leads sizes t v s ≡ true → seat_fits sizes s ≡ true
-leader_fits sizes t v s e = let h = eqb-true _ _ e in let k = mod_below v.0 (seat_count sizes) (omega arith) in lt-ltb _ _ (omega arith)
+leader_fits sizes t v s e = let k = mod_below v.0 (seat_count sizes) (omega arith) in grind (arith, nat_tests)
 
 -- the fields of an assent or a confirm
 record ViewedRead (sizes : Sizes) (k : Kind) (t : Change) (s : Seat) (v : View) (x : Outcome) (d : Digest) (xs : List ℕ) (e : ℕ) : Type 0 where
@@ -98,23 +96,12 @@ viewed_read sizes k t s v x d {xs} {e} fs fx fd q =
       digests = R.digest_reads (record { piece = second_part ((l ++ view_bytes v) ++ outcome_bytes x) (le8 d.0) q; fit = fd });
     }
 
--- the leader of its view sends a proposal, with movers unless the view is 0
-view_fits : (z l : Bool) → l ≡ true → (l && cond (not z) (not z) z) ≡ true
-view_fits true true e = refl
-view_fits false true e = refl
-view_fits true false e = e
-view_fits false false e = e
-
 proposal_read : (sizes : Sizes) (t : Change) (s : Seat) (v : View) (x : Outcome) (c : Certificate) (w : SeatSet) {xs : List ℕ} {e : ℕ} → body_fits sizes t (Proposal s v x c w) ≡ true → Piece xs 0 (body_bytes t (Proposal s v x c w)) e → BodyRead sizes t (Proposal s v x c w) xs e
 proposal_read sizes t s v x c w {xs} {e} f q₀ =
     let z = eqb v.0 0 in
     let m = proposal_map (outcome_number x) (not z) in
     let (g, o5, o11) = proposal_fits (outcome_number x) (not z) in
-    let (fv, f1) = and_parts (is_byte v.0) _ f in
-    let (fl, f2) = and_parts (leads sizes t v s) _ f1 in
-    let (fx, f3) = and_parts (R.outcome_fits x) _ f2 in
-    let (fc, fm) = and_parts (certificate_fits sizes c) (movers_fit sizes v w.0) f3 in
-    let fc' = fits_parts sizes c fc in
+    let fc = fits_parts sizes c (grind (arith, and_parts, f)) in
     let l = head m K.Proposal t (Controller s) in
     let q : Piece xs 0 ((((l ++ view_bytes v) ++ outcome_bytes x) ++ certificate_bytes c) ++ movers_bytes v w) e =
     subst (λ b. Piece xs 0 ((((head (common + bit 4 + number_bit (outcome_number x) + bit 10 + b) K.Proposal t (Controller s) ++ view_bytes v) ++ outcome_bytes x) ++ certificate_bytes c) ++ movers_bytes v w) e) (movers_bit_lem z) q₀ in
@@ -131,13 +118,13 @@ proposal_read sizes t s v x c w {xs} {e} f q₀ =
       starts = start m K.Proposal t (Controller s) h;
       fitting = g;
       reads =
-          after (F.controller_field sizes xs 4) (s, 5) _ _ (R.controller_reads sizes (record { piece = sender m K.Proposal t (Controller s) h; fit = leader_fits sizes t v s fl }))
-          (after (F.view_field xs 5) (v, 6) _ _ (R.view_reads (second_part l (view_bytes v) h1))
-          (pass (proposal_view_fits sizes t v s (stands m 11)) 5 _ _ (ap (λ y. proposal_view_fits sizes t v s y) o11 ∙ view_fits z (leads sizes t v s) fl)
-          (after (F.outcome_if (stands m 5) xs 6) (x, a3) _ _ (ap (λ y. F.outcome_if y xs 6) o5 ∙ R.outcome_reads x a3 (record { piece = second_part (l ++ view_bytes v) (outcome_bytes x) h2; fit = fx }))
-          (after (certificate_field sizes xs a3) (span_of (certificate_bytes c) a3, a4) _ _ (certificate_reads sizes c fc' (second_part ((l ++ view_bytes v) ++ outcome_bytes x) (certificate_bytes c) h3))
-          (after (F.movers_if (stands m 11) sizes xs a4) (w, e) _ _ (ap (λ y. F.movers_if y sizes xs a4) o11 ∙ movers_read v sizes w fm (second_part (((l ++ view_bytes v) ++ outcome_bytes x) ++ certificate_bytes c) (movers_bytes v w) q)) refl)))));
-      keeps = ap (λ (k : Certificate). Proposal s v x k w) (certificate_back sizes c fc');
+          after _ (R.controller_reads sizes (record { piece = sender m K.Proposal t (Controller s) h; fit = leader_fits sizes t v s (grind (arith, f)) }))
+          (after _ (R.view_reads (second_part l (view_bytes v) h1))
+          (pass (proposal_view_fits sizes t v s (stands m 11)) 5 _ _ (ap (λ y. proposal_view_fits sizes t v s y) o11 ∙ grind arith)
+          (after _ (ap (λ y. F.outcome_if y xs 6) o5 ∙ R.outcome_reads x a3 (record { piece = second_part (l ++ view_bytes v) (outcome_bytes x) h2; fit = grind (arith, f) }))
+          (after _ (certificate_reads sizes c fc (second_part ((l ++ view_bytes v) ++ outcome_bytes x) (certificate_bytes c) h3))
+          (after _ (ap (λ y. F.movers_if y sizes xs a4) o11 ∙ movers_read v sizes w (grind (arith, f)) (second_part (((l ++ view_bytes v) ++ outcome_bytes x) ++ certificate_bytes c) (movers_bytes v w) q)) refl)))));
+      keeps = ap (λ (k : Certificate). Proposal s v x k w) (certificate_back sizes c fc);
     }
 
 body_read : (sizes : Sizes) (t : Change) (b : Body Certificate Basis) {xs : List ℕ} {e : ℕ} → body_fits sizes t b ≡ true → Piece xs 0 (body_bytes t b) e → BodyRead sizes t b xs e
@@ -146,23 +133,22 @@ body_read sizes t (Enrol p) {xs} {e} f q = record {
   kind = K.Enrol;
   body = Enrol p;
   starts = start common K.Enrol t (Lock p) q;
-  fitting = exact _ _ refl refl refl;
-  reads = after (F.lock_field sizes xs 4) (p, e) _ _ (R.lock_reads sizes (record { piece = sender common K.Enrol t (Lock p) q; fit = f })) refl;
+  fitting = (refl, refl);
+  reads = after _ (R.lock_reads sizes (record { piece = sender common K.Enrol t (Lock p) q; fit = f })) refl;
   keeps = refl;
 }
 body_read sizes t (Receipt s p) {xs} {e} f q =
     let m = common + bit 3 in
-    let (fs, fp) = and_parts (seat_fits sizes s) (place_fits sizes p) f in
     let h = first_part (head m K.Receipt t (Controller s)) (p.0 ∷ []) q in
     record {
       map = m;
       kind = K.Receipt;
       body = Receipt s p;
       starts = start m K.Receipt t (Controller s) h;
-      fitting = exact _ _ refl refl refl;
+      fitting = (refl, refl);
       reads =
-          after (F.controller_field sizes xs 4) (s, 5) _ _ (R.controller_reads sizes (record { piece = sender m K.Receipt t (Controller s) h; fit = fs }))
-          (after (F.place_field sizes xs 5) (p, e) _ _ (R.place_reads sizes (record { piece = second_part (head m K.Receipt t (Controller s)) (p.0 ∷ []) q; fit = fp })) refl);
+          after _ (R.controller_reads sizes (record { piece = sender m K.Receipt t (Controller s) h; fit = grind (arith, f) }))
+          (after _ (R.place_reads sizes (record { piece = second_part (head m K.Receipt t (Controller s)) (p.0 ∷ []) q; fit = grind (arith, f) })) refl);
       keeps = refl;
     }
 body_read sizes t (Order n) {xs} {e} f q =
@@ -176,47 +162,42 @@ body_read sizes t (Order n) {xs} {e} f q =
       starts = start m K.Order t Office h;
       fitting = g;
       reads =
-          after (F.office_field sizes xs 4) (tt, 5) _ _ (R.office_reads sizes (sender m K.Order t Office h))
-          (after (F.number_if (stands m 5) xs 5) (n, e) _ _ (ap (λ x. F.number_if x xs 5) o ∙ R.number_if_reads n e (record { piece = second_part (head m K.Order t Office) (number_bytes n) q; fit = f })) refl);
+          after _ (R.office_reads sizes (sender m K.Order t Office h))
+          (after _ (ap (λ x. F.number_if x xs 5) o ∙ R.number_if_reads n e (record { piece = second_part (head m K.Order t Office) (number_bytes n) q; fit = f })) refl);
       keeps = refl;
     }
 body_read sizes t (Summons s n z) {xs} {e} f q =
     let m = common + bit 5 + bit 8 in
-    let (fs, fr) = and_parts (seat_fits sizes s) (R.key_fits n && is_word z.0) f in
-    let (fn, fz) = and_parts (R.key_fits n) (is_word z.0) fr in
     let l = head m K.Summons t (Controller s) in
     let h1 = first_part (l ++ le4 n.0) (le8 z.0) q in
     let h = first_part l (le4 n.0) h1 in
-    let a2 = 0 + length (l ++ le4 n.0) in
     record {
       map = m;
       kind = K.Summons;
       body = Summons s n z;
       starts = start m K.Summons t (Controller s) h;
-      fitting = exact _ _ refl refl refl;
+      fitting = (refl, refl);
       reads =
-          after (F.controller_field sizes xs 4) (s, 5) _ _ (R.controller_reads sizes (record { piece = sender m K.Summons t (Controller s) h; fit = fs }))
-          (after (F.number_field xs 5) (n, a2) _ _ (R.number_reads (record { piece = second_part l (le4 n.0) h1; fit = fn }))
-          (after (F.seal_field xs a2) (z, e) _ _ (R.seal_reads (record { piece = second_part (l ++ le4 n.0) (le8 z.0) q; fit = fz })) refl));
+          after _ (R.controller_reads sizes (record { piece = sender m K.Summons t (Controller s) h; fit = grind (arith, f) }))
+          (after _ (R.number_reads (record { piece = second_part l (le4 n.0) h1; fit = grind (arith, f) }))
+          (after _ (R.seal_reads (record { piece = second_part (l ++ le4 n.0) (le8 z.0) q; fit = grind (arith, f) })) refl));
       keeps = refl;
     }
 body_read sizes t (Vote p n x) {xs} {e} f q =
     let m = common + bit 5 + bit 6 in
-    let (fp, fn) = and_parts (place_fits sizes p) (R.key_fits n) f in
     let l = head m K.Vote t (Lock p) in
     let h1 = first_part (l ++ le4 n.0) (answer_number x ∷ []) q in
     let h = first_part l (le4 n.0) h1 in
-    let a2 = 0 + length (l ++ le4 n.0) in
     record {
       map = m;
       kind = K.Vote;
       body = Vote p n x;
       starts = start m K.Vote t (Lock p) h;
-      fitting = exact _ _ refl refl refl;
+      fitting = (refl, refl);
       reads =
-          after (F.lock_field sizes xs 4) (p, 5) _ _ (R.lock_reads sizes (record { piece = sender m K.Vote t (Lock p) h; fit = fp }))
-          (after (F.number_field xs 5) (n, a2) _ _ (R.number_reads (record { piece = second_part l (le4 n.0) h1; fit = fn }))
-          (after (F.answer_field xs a2) (x, e) _ _ (R.answer_reads (second_part (l ++ le4 n.0) (answer_number x ∷ []) q)) refl));
+          after _ (R.lock_reads sizes (record { piece = sender m K.Vote t (Lock p) h; fit = grind (arith, f) }))
+          (after _ (R.number_reads (record { piece = second_part l (le4 n.0) h1; fit = grind (arith, f) }))
+          (after _ (R.answer_reads (second_part (l ++ le4 n.0) (answer_number x ∷ []) q)) refl));
       keeps = refl;
     }
 body_read sizes t (Proposal s v x c w) {xs} {e} f q = proposal_read sizes t s v x c w f q
@@ -235,11 +216,11 @@ body_read sizes t (Assent s v x d) {xs} {e} f q =
       starts = r.starts;
       fitting = g;
       reads =
-          after (F.controller_field sizes xs 4) (s, 5) _ _ r.senders
-          (after (F.view_field xs 5) (v, 6) _ _ r.views
+          after _ r.senders
+          (after _ r.views
           (pass _ 5 _ _ fl
-          (after (F.outcome_if (stands m 5) xs 6) (x, r.a3) _ _ (ap (λ x. F.outcome_if x xs 6) o ∙ r.outcomes)
-          (after (F.digest_field xs r.a3) (d, e) _ _ r.digests refl))));
+          (after _ (ap (λ x. F.outcome_if x xs 6) o ∙ r.outcomes)
+          (after _ r.digests refl))));
       keeps = refl;
     }
 body_read sizes t (Confirm s v x d) {xs} {e} f q =
@@ -256,16 +237,15 @@ body_read sizes t (Confirm s v x d) {xs} {e} f q =
       starts = r.starts;
       fitting = g;
       reads =
-          after (F.controller_field sizes xs 4) (s, 5) _ _ r.senders
-          (after (F.view_field xs 5) (v, 6) _ _ r.views
-          (after (F.outcome_if (stands m 5) xs 6) (x, r.a3) _ _ (ap (λ x. F.outcome_if x xs 6) o ∙ r.outcomes)
-          (after (F.digest_field xs r.a3) (d, e) _ _ r.digests refl)));
+          after _ r.senders
+          (after _ r.views
+          (after _ (ap (λ x. F.outcome_if x xs 6) o ∙ r.outcomes)
+          (after _ r.digests refl)));
       keeps = refl;
     }
 body_read sizes t (Result s x) {xs} {e} f q =
     let m = order_map (outcome_number x) in
     let (_, g, o) = order_fits_lem (outcome_number x) in
-    let (fs, fx) = and_parts (seat_fits sizes s) (R.outcome_fits x) f in
     let l = head m K.Result t (Controller s) in
     let h = first_part l (outcome_bytes x) q in
     record {
@@ -275,19 +255,19 @@ body_read sizes t (Result s x) {xs} {e} f q =
       starts = start m K.Result t (Controller s) h;
       fitting = g;
       reads =
-          after (F.controller_field sizes xs 4) (s, 5) _ _ (R.controller_reads sizes (record { piece = sender m K.Result t (Controller s) h; fit = fs }))
-          (after (F.outcome_if (stands m 5) xs 5) (x, e) _ _ (ap (λ x. F.outcome_if x xs 5) o ∙ R.outcome_reads x e (record { piece = second_part l (outcome_bytes x) q; fit = fx })) refl);
+          after _ (R.controller_reads sizes (record { piece = sender m K.Result t (Controller s) h; fit = grind (arith, f) }))
+          (after _ (ap (λ x. F.outcome_if x xs 5) o ∙ R.outcome_reads x e (record { piece = second_part l (outcome_bytes x) q; fit = grind (arith, f) })) refl);
       keeps = refl;
     }
 body_read sizes t (Move s v b) {xs} {e} f q =
     let m = move_map b in
     let (g, o9, o5) = move_fits b in
-    let (fs, f1) = and_parts (seat_fits sizes s) _ f in
-    let (fv, f2) = and_parts (is_byte v.0) _ f1 in
-    let (fz, fb) = and_parts (not (eqb v.0 0)) (grounds_fit sizes t v b) f2 in
     let l = head m K.Move t (Controller s) in
     let h1 = first_part (l ++ view_bytes v) (grounds_bytes b) q in
     let h = first_part l (view_bytes v) h1 in
+    let (fs, f1) = and_parts (seat_fits sizes s) _ f in
+    let (fv, f2) = and_parts (is_byte v.0) _ f1 in
+    let (fz, fb) = and_parts (not (eqb v.0 0)) (grounds_fit sizes t v b) f2 in
     let w = grounds_read sizes t v b fb (second_part (l ++ view_bytes v) (grounds_bytes b) q) in
     record {
       map = m;
@@ -296,10 +276,10 @@ body_read sizes t (Move s v b) {xs} {e} f q =
       starts = start m K.Move t (Controller s) h;
       fitting = g;
       reads =
-          after (F.controller_field sizes xs 4) (s, 5) _ _ (R.controller_reads sizes (record { piece = sender m K.Move t (Controller s) h; fit = fs }))
-          (after (F.view_field xs 5) (v, 6) _ _ (R.view_reads (second_part l (view_bytes v) h1))
+          after _ (R.controller_reads sizes (record { piece = sender m K.Move t (Controller s) h; fit = fs }))
+          (after _ (R.view_reads (second_part l (view_bytes v) h1))
           (pass _ 5 _ _ fz
-          (after (grounds_if (stands m 9) (stands m 5) sizes t v xs 6) (w.spans, e) _ _ (ap₂ (λ x y. grounds_if x y sizes t v xs 6) o9 o5 ∙ w.reads) refl)));
+          (after _ (ap₂ (λ x y. grounds_if x y sizes t v xs 6) o9 o5 ∙ w.reads) refl)));
       keeps = ap (Move s v) w.keeps;
     }
 
@@ -310,7 +290,7 @@ unfolding le2
 letter_read sizes xs t b z e ft r q =
     let m = r.map in
     let k = r.kind in
-    let small = ltb-true m 8192 r.fitting.small in
+    let small = ltb-true m 8192 (and_parts _ _ r.fitting.0).0 in
     let high : m / 256 % 256 ≡ m / 256 = omega arith in
     let p1 : Piece xs 0 ((m % 256) ∷ (m / 256) ∷ []) 2 = first_part ((m % 256) ∷ (m / 256) ∷ []) (kind_number k ∷ (t.0 % 256) ∷ []) r.starts in
     let p2 : Piece xs 2 (kind_number k ∷ (t.0 % 256) ∷ []) 4 = second_part ((m % 256) ∷ (m / 256) ∷ []) (kind_number k ∷ (t.0 % 256) ∷ []) r.starts in
@@ -318,20 +298,18 @@ letter_read sizes xs t b z e ft r q =
     let p4 : Piece xs 3 ((t.0 % 256) ∷ []) 4 = second_part (kind_number k ∷ []) ((t.0 % 256) ∷ []) p2 in
     let p1' : Piece xs 0 (le2 m) 2 = subst (λ n. Piece xs 0 ((m % 256) ∷ n ∷ []) 2) (sym high) p1 in
     let w : read sizes xs ≡ Ok (letter t r.body z) =
-    after (F.map_field xs 0) (m, 2) _ _ (after (F.two xs 0) (m, 2) _ _ (two_reads p1' (omega arith)) (cond-true _ _ _ (and_from _ _ r.fitting.small r.fitting.first)))
-    (after (F.kind_field xs 2) (k, 3) _ _ (R.kind_reads k p3)
-    (after (fit k m) tt _ _ (cond-true (fits k m) _ _ r.fitting.fit)
-    (after (F.change_field xs 3) (t, 4) _ _ (R.change_reads (record { piece = p4; fit = ft }))
-    (after (body_field sizes t m k xs 4) (r.body, e) _ _ r.reads
-    (after (F.seal_field xs e) (z, length xs) _ _ (R.seal_reads q)
-    (after (F.ended xs (length xs)) tt _ _ (cond-true (leb (length xs) (length xs)) _ _ (le-leb _ _ (omega arith))) refl)))))) in
+    after _ (after _ (two_reads p1' (omega arith)) (cond-true _ _ _ r.fitting.0))
+    (after _ (R.kind_reads k p3)
+    (after _ (cond-true (fits k m) _ _ r.fitting.1)
+    (after _ (R.change_reads (record { piece = p4; fit = ft }))
+    (after _ r.reads
+    (after _ (R.seal_reads q)
+    (after _ (cond-true (leb (length xs) (length xs)) _ _ (le-leb _ _ (omega arith))) refl)))))) in
     ap kept_result w ∙ ap (λ (y : Body Certificate Basis). Ok (letter t y z)) r.keeps
 
 pub letters_are_read_back : LettersAreReadBack
 letters_are_read_back sizes l f =
-    let (ft, f1) = and_parts (is_change l.change.0) _ f in
-    let (fz, fb) = and_parts (is_word l.seal.0) (body_fits sizes l.change l.body) f1 in
     let xs = layout l in
     let q = whole xs in
     let body = body_bytes l.change l.body in
-    letter_read sizes xs l.change l.body l.seal _ ft (body_read sizes l.change l.body fb (first_part body (le8 l.seal.0) q)) (record { piece = second_part body (le8 l.seal.0) q; fit = fz })
+    letter_read sizes xs l.change l.body l.seal _ (grind (arith, f)) (body_read sizes l.change l.body (grind (arith, f)) (first_part body (le8 l.seal.0) q)) (record { piece = second_part body (le8 l.seal.0) q; fit = grind (arith, f) })

@@ -1,7 +1,8 @@
 -- A basis' bytes are read as it, and what is read as a basis has its bytes.
 use Rattle.std.proofs.Common.{◌≡◌, ℕ, ◌+◌, ◌*◌, ◌/◌, ◌^◌, ◌<◌, ◌≤◌, Bool, true, false, not, ◌&&◌, eqb, ltb, List, [], ◌∷◌, ◌++◌, length, is_some, Some, None, Ok, Option, sym, refl, ap, ◌∙◌, subst, ap₂, arith}
 use lib.Count.{ones}
-use Rattle.std.proofs.lemmas.Bool.{ltb-true, lt-ltb, eqb-true, eq-eqb, and_parts, and_from}
+use Rattle.std.proofs.lemmas.Bool.Decides.{nat_tests}
+use Rattle.std.proofs.lemmas.Bool.{ltb-true, eq-eqb, and_parts, and_from}
 use Rattle.terms.specs.declared.numbers.Change.{Change}
 use Rattle.terms.specs.declared.numbers.View.{View}
 use Rattle.terms.specs.declared.parties.Outcome.{Outcome}
@@ -17,14 +18,14 @@ use Rattle.letters.specs.Certificates.{certificate_bytes}
 use Rattle.letters.specs.Layout.{basis_bytes, grounds_bytes}
 use Rattle.letters.specs.Ranges.{is_word, rows_fit, certificate_fits, basis_fits, grounds_fit}
 use Rattle.letters.specs.Sorts.{seal, stands}
-use Rattle.reading.specs.Fields.{two, view_field, outcome_if, seal_field}
+use Rattle.reading.specs.Fields.{two, view_field}
 use Rattle.reading.specs.Parts.{Span, Spans}
-use Rattle.reading.specs.Spans.{certificate_field, basis_view_field, assenters_field, basis_fields, basis_field, grounds_if}
+use Rattle.reading.specs.Spans.{basis_view_field, assenters_field, basis_fields, basis_field, grounds_if}
 use Rattle.kept.specs.Kept.{certificate_in, basis_in}
 use Rattle.roundtrip.specs.Laws.{Bytes, grounds_certificate}
 use Rattle.roundtrip.proofs.Pieces.{Piece, join, first_part, second_part, nothing, whole, between_is, two_at_lem, eight_at_lem}
 use Rattle.roundtrip.proofs.Rows.{map_below, rows_length, rows_found}
-use Rattle.roundtrip.proofs.Steps.{after, step, pass, passed, ok_same, two_reads, two_found}
+use Rattle.roundtrip.proofs.Steps.{after, step, found, pass, checked_found, ok_same, two_reads, two_found}
 use Rattle.roundtrip.proofs.Fields.{Stands, view_reads, view_found, outcome_reads, outcome_found, outcome_bytes, outcome_fits, changes, seal_reads, seal_found, seal_of, seal_fits}
 use Rattle.roundtrip.proofs.Certificates.{Fits, fits_parts, parts_fit, map_low, low_map, seals_reads, seals_found, rows_at_lem, span_of, certificate_reads, certificate_back, Certified, certificate_found, same_certificate}
 
@@ -42,37 +43,21 @@ pub record Grounded (sizes : Sizes) (t : Change) (v : View) (b : Basis) : Type 0
 
 pub grounded : (sizes : Sizes) (t : Change) (v : View) (b : Basis) → basis_fits sizes t v b ≡ true → Grounded sizes t v b
 grounded sizes t v b f =
-    let m = map_of is_some b.assents in
-    let g1 = and_parts (ltb b.view.0 v.0) _ f in
-    let g2 = and_parts (eqb (length b.assents) 16) _ g1.1 in
-    let g3 = and_parts (ltb m (2 ^ seat_count sizes)) _ g2.1 in
-    let g4 = and_parts (eqb (ones m) (2 * sizes.faults)) _ g3.1 in
-    let g5 = and_parts (not (stands m (leader_of sizes t b.view).0)) _ g4.1 in
-    let g6 = and_parts (outcome_fits b.outcome) _ g5.1 in
-    let g7 = and_parts (is_word b.leader_seal.0) _ g6.1 in
-    let g8 = and_parts (rows_fit b.assents) (certificate_fits sizes b.certificate) g7.1 in
+    let c : certificate_fits sizes b.certificate ≡ true = grind (arith, and_parts) in
     record {
-      below = g1.0;
-      long = eqb-true _ _ g2.0;
-      low = ltb-true _ _ g3.0;
-      many = eqb-true _ _ g4.0;
-      others = g5.0;
-      outcome_fit = g6.0;
-      word = g7.0;
-      fit = g8.0;
-      certificate_fit = fits_parts sizes b.certificate g8.1;
+      below = grind arith;
+      long = grind (arith, nat_tests);
+      low = grind (arith, nat_tests);
+      many = grind (arith, nat_tests);
+      others = grind arith;
+      outcome_fit = grind arith;
+      word = grind arith;
+      fit = grind arith;
+      certificate_fit = fits_parts sizes b.certificate c;
     }
 
 pub ground_fits : (sizes : Sizes) (t : Change) (v : View) (b : Basis) → Grounded sizes t v b → basis_fits sizes t v b ≡ true
-ground_fits sizes t v b g =
-    and_from _ _ g.below
-    (and_from _ _ (eq-eqb _ _ g.long)
-    (and_from _ _ (lt-ltb _ _ g.low)
-    (and_from _ _ (eq-eqb _ _ g.many)
-    (and_from _ _ g.others
-    (and_from _ _ g.outcome_fit
-    (and_from _ _ g.word
-    (and_from _ _ g.fit (parts_fit sizes b.certificate g.certificate_fit))))))))
+ground_fits sizes t v b g = let c = parts_fit sizes b.certificate g.certificate_fit in grind (arith, nat_tests)
 
 -- ---- a basis that was written
 
@@ -101,15 +86,15 @@ basis_fields_lem : (sizes : Sizes) (t : Change) (v : View) (b : Basis) {xs : Lis
 basis_fields_lem sizes t v b {xs} {a} {e} g p =
     let s = apart b p in
     let m = map_of is_some b.assents in
-    after (basis_view_field v xs a) (b.view, a + 1) _ _ (after (view_field xs a) (b.view, a + 1) _ _ (view_reads s.view_piece) (pass _ a _ _ g.below refl))
-    (after (assenters_field sizes t b.view xs (a + 1)) (m, s.a2) _ _
-    (after (two xs (a + 1)) (m, s.a2) _ _ (two_reads s.seats_piece (seats_below b.assents g.long))
+    after _ (after _ (view_reads s.view_piece) (pass _ a _ _ g.below refl))
+    (after _
+    (after _ (two_reads s.seats_piece (seats_below b.assents g.long))
     (pass _ (a + 1) _ _ (and_from _ _ (eq-eqb _ _ (map_low m (seat_count sizes) g.low)) (and_from _ _ (eq-eqb _ _ g.many) g.others)) refl))
-    (after (seal_field xs s.a2) (b.leader_seal, s.a3) _ _ (seal_reads (record { piece = s.seal_piece; fit = g.word }))
+    (after _ (seal_reads (record { piece = s.seal_piece; fit = g.word }))
     (seals_reads (2 * sizes.faults) s.rows_piece (rows_length b.assents ∙ ap (λ n. n * 8) g.many))))
 
 pub basis_reads : (sizes : Sizes) (t : Change) (v : View) (b : Basis) {xs : List ℕ} {a e : ℕ} → Grounded sizes t v b → Piece xs a (basis_bytes b) e → basis_field sizes t v xs a ≡ Ok (span_of (basis_bytes b) a, e)
-basis_reads sizes t v b {xs} {a} {e} g p = after (basis_fields sizes t v xs a) (tt, e) _ _ (basis_fields_lem sizes t v b g p) (ap (λ bs. Ok (span_of bs a, e)) (between_is p))
+basis_reads sizes t v b {xs} {a} {e} g p = after _ (basis_fields_lem sizes t v b g p) (ap (λ bs. Ok (span_of bs a, e)) (between_is p))
 
 -- the parts of a move that show a basis
 abbrev pub spans_of : Basis → ℕ → ℕ → Spans
@@ -148,9 +133,8 @@ pub record Based (sizes : Sizes) (t : Change) (v : View) (xs : List ℕ) (a e : 
 module _ (sizes : Sizes) (t : Change) (v : View) (xs : List ℕ) (bytes : Bytes xs) (a : ℕ) where
   basis_view_found : (p : View × ℕ) → basis_view_field v xs a ≡ Ok p → Piece xs a (p.0.0 ∷ []) p.1 × (ltb p.0.0 v.0 ≡ true)
   basis_view_found p e =
-      step (view_field xs a) _ p e (λ q e1 e2.
-      let (f, e3) = passed (ltb q.0.0 v.0) a _ p e2 in
-      subst (λ (p : View × ℕ). Piece xs a (p.0.0 ∷ []) p.1 × (ltb p.0.0 v.0 ≡ true)) (ok_same e3) ((view_found xs bytes a q e1).piece, f))
+      let (e1, f) = checked_found view_field (λ u. ltb u.0 v.0) xs a p e in
+      ((view_found xs bytes a p e1).piece, f)
 
   Assenters : View → ℕ × ℕ → Type 0
   Assenters u p = Piece xs a (le2 p.0) p.1 × (p.0 < 65536) × (p.0 < 2 ^ seat_count sizes) × (ones p.0 ≡ 2 * sizes.faults) × (not (stands p.0 (leader_of sizes t u).0) ≡ true)
@@ -158,12 +142,10 @@ module _ (sizes : Sizes) (t : Change) (v : View) (xs : List ℕ) (bytes : Bytes 
   assenters_found : (u : View) (p : ℕ × ℕ) → assenters_field sizes t u xs a ≡ Ok p → Assenters u p
   unfolding Assenters
   assenters_found u p e =
-      step (two xs a) _ p e (λ q e1 e2.
-      let (f, e3) = passed (eqb (q.0 / 2 ^ seat_count sizes) 0 && (eqb (ones q.0) (2 * sizes.faults) && not (stands q.0 (leader_of sizes t u).0))) a _ p e2 in
-      let g1 = and_parts (eqb (q.0 / 2 ^ seat_count sizes) 0) _ f in
-      let g2 = and_parts (eqb (ones q.0) (2 * sizes.faults)) (not (stands q.0 (leader_of sizes t u).0)) g1.1 in
-      let (s, b) = two_found xs bytes a q e1 in
-      subst (Assenters u) (ok_same e3) (s, b, low_map _ _ (eqb-true _ _ g1.0), eqb-true _ _ g2.0, g2.1))
+      let (e1, f) = checked_found two (λ n. eqb (n / 2 ^ seat_count sizes) 0 && (eqb (ones n) (2 * sizes.faults) && not (stands n (leader_of sizes t u).0))) xs a p e in
+      let (s, b) = two_found xs bytes a p e1 in
+      let low : p.0 / 2 ^ seat_count sizes ≡ 0 = grind (arith, nat_tests, f) in
+      (s, b, low_map _ _ low, grind (arith, nat_tests, f), grind (arith, f))
 
 module _ (sizes : Sizes) (t : Change) (v : View) (xs : List ℕ) (bytes : Bytes xs) (a b : ℕ) where
   found_parts : (u : View) (m : ℕ) (z : Seal) (a1 a2 a3 : ℕ)
@@ -200,14 +182,10 @@ module _ (sizes : Sizes) (t : Change) (v : View) (xs : List ℕ) (bytes : Bytes 
 
   fields_found : (u : Unit {0}) → basis_fields sizes t v xs a ≡ Ok (u, b) → Based sizes t v xs a b
   fields_found w e0 =
-      step (basis_view_field v xs a) _ (w, b) e0 (λ q1 e1 d1.
-      step (assenters_field sizes t q1.0 xs q1.1) _ (w, b) d1 (λ q2 e2 d2.
-      step (seal_field xs q2.1) _ (w, b) d2 (λ q3 e3 d3.
-      found_parts q1.0 q2.0 q3.0 q1.1 q2.1 q3.1
-      (basis_view_found sizes t v xs bytes a q1 e1)
-      (assenters_found sizes t v xs bytes q1.1 q1.0 q2 e2)
-      (seal_found xs bytes q2.1 q3 e3)
-      (seals_found (2 * sizes.faults) xs q3.1 (w, b) d3))))
+      found _ (w, b) (basis_view_found sizes t v xs bytes a) e0 (λ q1 s1 d1.
+      found _ (w, b) (assenters_found sizes t v xs bytes q1.1 q1.0) d1 (λ q2 s2 d2.
+      found _ (w, b) (seal_found xs bytes q2.1) d2 (λ q3 s3 d3.
+      found_parts q1.0 q2.0 q3.0 q1.1 q2.1 q3.1 s1 s2 s3 (seals_found (2 * sizes.faults) xs q3.1 (w, b) d3))))
 
 -- the basis and its part
 pub record BasedAt (sizes : Sizes) (t : Change) (v : View) (xs : List ℕ) (a : ℕ) (p : Span × ℕ) : Type 0 where
@@ -246,9 +224,9 @@ grounds_read sizes t v (Some b) {xs} {a} {e} f p =
     record {
       spans = Some (spans_of b a1 a2);
       reads =
-          after (outcome_if (changes b.outcome) xs a) (b.outcome, a1) _ _ (outcome_reads b.outcome a1 (record { piece = q3; fit = g.outcome_fit }))
-          (after (basis_field sizes t v xs a1) (span_of (basis_bytes b) a1, a2) _ _ (basis_reads sizes t v b g q4)
-          (after (certificate_field sizes xs a2) (span_of (certificate_bytes b.certificate) a2, e) _ _ (certificate_reads sizes b.certificate g.certificate_fit q2) refl));
+          after _ (outcome_reads b.outcome a1 (record { piece = q3; fit = g.outcome_fit }))
+          (after _ (basis_reads sizes t v b g q4)
+          (after _ (certificate_reads sizes b.certificate g.certificate_fit q2) refl));
       keeps = ap Some (basis_back sizes t v b a1 a2 g);
     }
 
@@ -277,16 +255,11 @@ spans_found sizes t v numbered xs a x a1 e s a2 k (p, n) q r =
       same = λ d f. same_certificate sizes xs a2 (k, e) r d f;
     }
 
-none_certified : (c : Span) → ◌≡◌ {A = Option Span} None (Some c) → certificate_bytes (certificate_in c.bytes) ≡ c.bytes
-none_certified c e = let z : ◌≡◌ {A = ℕ} 0 1 = cc in absurd (omega arith)
-
 pub grounds_found : (sizes : Sizes) (t : Change) (v : View) (given numbered : Bool) (xs : List ℕ) → Bytes xs → (a : ℕ) → a ≤ length xs → (p : Option Spans × ℕ) → grounds_if given numbered sizes t v xs a ≡ Ok p → GroundsFound sizes t v given numbered xs a p
 grounds_found sizes t v false numbered xs bytes a h p e = subst (GroundsFound sizes t v false numbered xs a) (ok_same e)
-    (record { piece = nothing xs a h; fit = refl; some = refl; outcome = λ f. (let z : ◌≡◌ {A = ℕ} 0 1 = cc in absurd (omega arith)); same = λ c f. none_certified c f })
+    (record { piece = nothing xs a h; fit = refl; some = refl; outcome = λ f. cc; same = λ c f. cc })
 grounds_found sizes t v true numbered xs bytes a h p e =
-    step (outcome_if numbered xs a) _ p e (λ q1 e1 d1.
-    step (basis_field sizes t v xs q1.1) _ p d1 (λ q2 e2 d2.
-    step (certificate_field sizes xs q2.1) _ p d2 (λ q3 e3 d3.
-    subst (GroundsFound sizes t v true numbered xs a) (ok_same d3)
-    (spans_found sizes t v numbered xs a q1.0 q1.1 q3.1 q2.0 q2.1 q3.0
-    (outcome_found numbered xs bytes a h q1 e1) (basis_found sizes t v xs bytes q1.1 q2 e2) (certificate_found sizes xs bytes q2.1 q3 e3)))))
+    found _ p (outcome_found numbered xs bytes a h) e (λ q1 s1 d1.
+    found _ p (basis_found sizes t v xs bytes q1.1) d1 (λ q2 s2 d2.
+    found _ p (certificate_found sizes xs bytes q2.1) d2 (λ q3 s3 d3.
+    subst (GroundsFound sizes t v true numbered xs a) (ok_same d3) (spans_found sizes t v numbered xs a q1.0 q1.1 q3.1 q2.0 q2.1 q3.0 s1 s2 s3))))

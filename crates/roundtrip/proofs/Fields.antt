@@ -1,6 +1,7 @@
 -- Each field of a letter: its bytes are read as its value, and what is read has those bytes.
-use Rattle.std.proofs.Common.{◌≡◌, ℕ, ◌+◌, ◌-◌, ◌%◌, ◌<◌, ◌≤◌, Bool, true, false, cond, eqb, leb, ◌⊎◌, List, [], ◌∷◌, length, is_some, Some, None, Ok, Err, Option, Result, sym, refl, ap, ◌∙◌, subst, inl, inr, arith}
-use Rattle.std.proofs.lemmas.Bool.{leb-true, le-leb, lt-leb, lt-ltb, ltb-true, eqb-true, ne_eqb, cond-true}
+use Rattle.std.proofs.Common.{◌≡◌, ℕ, ◌+◌, ◌%◌, ◌^◌, ◌<◌, ◌≤◌, Bool, true, false, List, [], ◌∷◌, length, is_some, Some, None, Ok, Err, Option, Result, sym, refl, ap, ◌∙◌, subst, arith}
+use Rattle.std.proofs.lemmas.Bool.Decides.{nat_tests}
+use Rattle.std.proofs.lemmas.Bool.{leb-true, ltb-true, cond-true}
 use Rattle.terms.specs.declared.numbers.Change.{Change}
 use Rattle.terms.specs.declared.numbers.KeyNumber.{KeyNumber}
 use Rattle.terms.specs.declared.numbers.Place.{Place}
@@ -12,13 +13,11 @@ use Rattle.terms.specs.declared.parties.Party.{Party}
 use Rattle.terms.specs.declared.parties.Party.TheVariants.{Controller, Lock, Office}
 use Rattle.terms.specs.declared.refusals.Refusal.{Refusal}
 use Rattle.terms.specs.declared.sizes.Sizes.{Sizes}
-use Rattle.terms.specs.Numbers.{is_change, is_key, change_of, key, key_of, view_of}
-use Rattle.terms.specs.Parties.{party_number, party_in, place_in, seat_in, as_lock, as_controller}
+use Rattle.terms.specs.Numbers.{is_change, is_key, change_of, key_of, view_of}
+use Rattle.terms.specs.Parties.{party_number, party_in, place_in}
 use Rattle.letters.specs.declared.sorts.Answer.{Answer}
-use Rattle.letters.specs.declared.sorts.Answer.TheVariants.{Ready, Refuse}
 use Rattle.letters.specs.declared.sorts.Digest.{Digest}
 use Rattle.letters.specs.declared.sorts.Kind.{Kind}
-use Rattle.letters.specs.declared.sorts.Kind.TheVariants as K
 use Rattle.letters.specs.declared.sorts.Seal.{Seal}
 use Rattle.letters.specs.Bytes.{le4, le8}
 use Rattle.letters.specs.Certificates.{number_bytes}
@@ -27,10 +26,10 @@ use Rattle.letters.specs.Sorts.{seal, digest, kind_number, kind_of, answer_numbe
 use Rattle.letters.specs.Statements.{outcome_number}
 use Rattle.reading.specs.Bind.{◌>>=◌}
 use Rattle.reading.specs.Fields as F
-use Rattle.reading.specs.Fields.{ranged, byte, four, eight}
+use Rattle.reading.specs.Fields.{Read, ranged, byte, four, eight}
 use Rattle.roundtrip.specs.Laws.{Bytes}
 use Rattle.roundtrip.proofs.Pieces.{Piece, nothing}
-use Rattle.roundtrip.proofs.Steps.{after, came, ok_same, within_some, picked, picked_reads, picked_found, mapped_reads, mapped_found, byte_reads, four_reads, eight_reads, byte_found, four_found, eight_found}
+use Rattle.roundtrip.proofs.Steps.{after, came, ok_same, picked, picked_reads, picked_found, byte_reads, four_reads, eight_reads, byte_found, four_found, eight_found}
 
 -- a value within range, whose bytes stand at `a` up to the offset beside it
 pub record Stands {A : Type 0} (bytes : A → List ℕ) (fits : A → Bool) (xs : List ℕ) (a : ℕ) (p : A × ℕ) : Type 0 where
@@ -57,74 +56,34 @@ view_bytes v = v.0 ∷ []
 abbrev pub answer_bytes : Answer → List ℕ
 answer_bytes a = answer_number a ∷ []
 
-same_byte : (n : ℕ) → n < 256 → n % 256 ≡ n
-same_byte n h = omega arith
-
 -- ---- kind
 
-kind_back : (k : Kind) → kind_of (kind_number k) ≡ Some k
-kind_back K.Enrol = refl
-kind_back K.Receipt = refl
-kind_back K.Order = refl
-kind_back K.Summons = refl
-kind_back K.Vote = refl
-kind_back K.Proposal = refl
-kind_back K.Assent = refl
-kind_back K.Confirm = refl
-kind_back K.Result = refl
-kind_back K.Move = refl
-
-picks : (n i : ℕ) (k₀ : Kind) (rest : Option Kind) (k : Kind) → kind_number k₀ ≡ i → cond (eqb n i) (Some k₀) rest ≡ Some k → (rest ≡ Some k → kind_number k ≡ n) → kind_number k ≡ n
-picks n i k₀ rest k f e g = go (eqb n i) refl e
-  where
-    go : (t : Bool) → eqb n i ≡ t → cond t (Some k₀) rest ≡ Some k → kind_number k ≡ n
-    go true h e = let s : k₀ ≡ k = cc in ap kind_number (sym s) ∙ (f ∙ sym (eqb-true n i h))
-    go false h e = g e
-
-kind_is : (n : ℕ) (k : Kind) → kind_of n ≡ Some k → kind_number k ≡ n
-kind_is n k e =
-    picks n 1 K.Enrol _ k refl e (λ e.
-    picks n 2 K.Receipt _ k refl e (λ e.
-    picks n 3 K.Order _ k refl e (λ e.
-    picks n 4 K.Summons _ k refl e (λ e.
-    picks n 5 K.Vote _ k refl e (λ e.
-    picks n 6 K.Proposal _ k refl e (λ e.
-    picks n 7 K.Assent _ k refl e (λ e.
-    picks n 8 K.Confirm _ k refl e (λ e.
-    picks n 9 K.Result _ k refl e (λ e.
-    picks n 10 K.Move None k refl e (λ e. let z : ◌≡◌ {A = ℕ} 0 1 = cc in absurd (omega arith)))))))))))
-
 pub kind_reads : {xs : List ℕ} {a b : ℕ} (k : Kind) → Piece xs a (kind_bytes k) b → F.kind_field xs a ≡ Ok (k, b)
-kind_reads {xs} {a} {b} k p = picked_reads byte xs a kind_of (kind_number k) k b (byte_reads p) (kind_back k)
+kind_reads {xs} {a} {b} k p = picked_reads byte xs a kind_of (kind_number k) k b (byte_reads p) (grind arith)
 
--- a byte, and the value that it stands for
-module _ {A : Type 0} (o : ℕ → Option A) (number : A → ℕ) (fits : A → Bool) (xs : List ℕ) (bytes : Bytes xs) (a : ℕ) (p : A × ℕ) where
-  byte_picked : ((n : ℕ) → n < 256 → o n ≡ Some p.0 → (number p.0 ≡ n) × (fits p.0 ≡ true)) → picked byte o xs a ≡ Ok p → Stands (λ v. number v ∷ []) fits xs a p
-  byte_picked is e =
-      let (n, e1, e2) = picked_found byte xs a o p e in
-      let q = byte_found xs bytes a (n, p.1) e1 in
+-- the bytes of a number, and the value that it stands for
+module _ {A : Type 0} (r : List ℕ → ℕ → Read ℕ) (spelled : ℕ → List ℕ) (Small : ℕ → Type 0) (o : ℕ → Option A) (number : A → ℕ) (fits : A → Bool) (xs : List ℕ) (a : ℕ) (p : A × ℕ) where
+  picked_stands : ((q : ℕ × ℕ) → r xs a ≡ Ok q → Piece xs a (spelled q.0) q.1 × Small q.0) → ((n : ℕ) → Small n → o n ≡ Some p.0 → (number p.0 ≡ n) × (fits p.0 ≡ true)) → picked r o xs a ≡ Ok p → Stands (λ v. spelled (number v)) fits xs a p
+  picked_stands found is e =
+      let (n, e1, e2) = picked_found r xs a o p e in
+      let q = found (n, p.1) e1 in
       let i = is n q.1 e2 in
       record { piece = rw i.0 q.0; fit = i.1 }
 
+module _ {A : Type 0} (o : ℕ → Option A) (number : A → ℕ) (fits : A → Bool) (xs : List ℕ) (bytes : Bytes xs) (a : ℕ) (p : A × ℕ) where
+  byte_picked : ((n : ℕ) → n < 256 → o n ≡ Some p.0 → (number p.0 ≡ n) × (fits p.0 ≡ true)) → picked byte o xs a ≡ Ok p → Stands (λ v. number v ∷ []) fits xs a p
+  byte_picked is e = picked_stands byte (λ n. n ∷ []) (λ n. n < 256) o number fits xs a p (byte_found xs bytes a) is e
+
 pub kind_found : (xs : List ℕ) → Bytes xs → (a : ℕ) (p : Kind × ℕ) → F.kind_field xs a ≡ Ok p → Piece xs a (kind_bytes p.0) p.1
-kind_found xs bytes a p e = (byte_picked kind_of kind_number (λ k. true) xs bytes a p (λ n h f. (kind_is n p.0 f, refl)) e).piece
+kind_found xs bytes a p e = (byte_picked kind_of kind_number (λ k. true) xs bytes a p (λ n h f. grind (arith, nat_tests)) e).piece
 
 -- ---- change
 
-change_back : (t : Change) → is_change t.0 ≡ true → change_of (t.0 % 256) ≡ Some t
-change_back t f =
-    let h : leb t.0 255 ≡ true = grind arith in
-    let l = leb-true _ _ h in
-    rw (same_byte t.0 (omega arith)) (cond-true (is_change t.0) (Some t) None f)
-
 pub change_reads : {xs : List ℕ} {a : ℕ} {p : Change × ℕ} → Stands change_bytes (λ t. is_change t.0) xs a p → F.change_field xs a ≡ Ok p
-change_reads {xs} {a} {p} s = picked_reads byte xs a change_of _ p.0 p.1 (byte_reads s.piece) (change_back p.0 s.fit)
+change_reads {xs} {a} {p} s = picked_reads byte xs a change_of _ p.0 p.1 (byte_reads s.piece) (grind (arith, nat_tests, s.fit))
 
 pub change_found : (xs : List ℕ) → Bytes xs → (a : ℕ) (p : Change × ℕ) → F.change_field xs a ≡ Ok p → Stands change_bytes (λ t. is_change t.0) xs a p
-change_found xs bytes a p e = byte_picked change_of (λ t. t.0 % 256) (λ t. is_change t.0) xs bytes a p is e
-  where
-    is : (n : ℕ) → n < 256 → change_of n ≡ Some p.0 → (p.0.0 % 256 ≡ n) × (is_change p.0.0 ≡ true)
-    is n h f = let w = within_some _ _ _ f in subst (λ (t : Change). (t.0 % 256 ≡ n) × (is_change t.0 ≡ true)) w.1 (same_byte n h, w.0)
+change_found xs bytes a p e = byte_picked change_of (λ t. t.0 % 256) (λ t. is_change t.0) xs bytes a p (λ n h f. grind (arith, nat_tests)) e
 
 -- ---- place
 
@@ -132,37 +91,9 @@ pub place_reads : (sizes : Sizes) {xs : List ℕ} {a : ℕ} {p : Place × ℕ} �
 place_reads sizes {xs} {a} {p} s = picked_reads byte xs a (place_in sizes) _ p.0 p.1 (byte_reads s.piece) (cond-true (place_fits sizes p.0) (Some p.0) None s.fit)
 
 pub place_found : (sizes : Sizes) (xs : List ℕ) → Bytes xs → (a : ℕ) (p : Place × ℕ) → F.place_field sizes xs a ≡ Ok p → Stands place_bytes (place_fits sizes) xs a p
-place_found sizes xs bytes a p e = byte_picked (place_in sizes) (λ q. q.0) (place_fits sizes) xs bytes a p is e
-  where
-    is : (n : ℕ) → n < 256 → place_in sizes n ≡ Some p.0 → (p.0.0 ≡ n) × (place_fits sizes p.0 ≡ true)
-    is n h f = let w = within_some _ _ _ f in subst (λ (q : Place). (q.0 ≡ n) × (place_fits sizes q ≡ true)) w.1 (refl, w.0)
+place_found sizes xs bytes a p e = byte_picked (place_in sizes) (λ q. q.0) (place_fits sizes) xs bytes a p (λ n h f. grind (arith, nat_tests)) e
 
 -- ---- sender
-
--- the party that a number names, by the tests on it
-abbrev party_by : Bool → Bool → Option Place → Option Seat → Option Party
-party_by office lock p s = cond office (Some Office) (cond lock (as_lock p) (as_controller s))
-
-lock_by : (x y : Bool) (o : Option Place) (s : Option Seat) (p : Place) → F.lock_of (party_by x y o s) ≡ Some p → (y ≡ true) × (o ≡ Some p)
-lock_by true y o s p e = let z : ◌≡◌ {A = ℕ} 0 1 = cc in absurd (omega arith)
-lock_by false true (Some q) s p e = (refl, e)
-lock_by false true None s p e = let z : ◌≡◌ {A = ℕ} 0 1 = cc in absurd (omega arith)
-lock_by false false o (Some s) p e = let z : ◌≡◌ {A = ℕ} 0 1 = cc in absurd (omega arith)
-lock_by false false o None p e = let z : ◌≡◌ {A = ℕ} 0 1 = cc in absurd (omega arith)
-
-controller_by : (x y : Bool) (o : Option Place) (s : Option Seat) (p : Seat) → F.controller_of (party_by x y o s) ≡ Some p → s ≡ Some p
-controller_by true y o s p e = let z : ◌≡◌ {A = ℕ} 0 1 = cc in absurd (omega arith)
-controller_by false true (Some q) s p e = let z : ◌≡◌ {A = ℕ} 0 1 = cc in absurd (omega arith)
-controller_by false true None s p e = let z : ◌≡◌ {A = ℕ} 0 1 = cc in absurd (omega arith)
-controller_by false false o (Some s) p e = e
-controller_by false false o None p e = let z : ◌≡◌ {A = ℕ} 0 1 = cc in absurd (omega arith)
-
-office_by : (x y : Bool) (o : Option Place) (s : Option Seat) (p : Unit {0}) → F.office_of (party_by x y o s) ≡ Some p → x ≡ true
-office_by true y o s p e = refl
-office_by false true (Some q) s p e = let z : ◌≡◌ {A = ℕ} 0 1 = cc in absurd (omega arith)
-office_by false true None s p e = let z : ◌≡◌ {A = ℕ} 0 1 = cc in absurd (omega arith)
-office_by false false o (Some s) p e = let z : ◌≡◌ {A = ℕ} 0 1 = cc in absurd (omega arith)
-office_by false false o None p e = let z : ◌≡◌ {A = ℕ} 0 1 = cc in absurd (omega arith)
 
 assoc : {A B C : Type 0} (r : Result A Refusal) (f : A → Result B Refusal) (g : B → Result C Refusal) → (r >>= f >>= g) ≡ (r >>= (λ x. f x >>= g))
 assoc (Ok x) f g = refl
@@ -173,86 +104,37 @@ sender : {A : Type 0} (sizes : Sizes) (o : Option Party → Option A) (xs : List
     → (F.party_field sizes xs a >>= (λ (q : Option Party × ℕ). ranged (o q.0) a >>= (λ (v : A). Ok (v, q.1)))) ≡ picked byte (λ n. o (party_in sizes n)) xs a
 sender sizes o xs a = assoc (byte xs a) _ _
 
-lock_back : (sizes : Sizes) (p : Place) → place_fits sizes p ≡ true → F.lock_of (party_in sizes ((32 + p.0) % 256)) ≡ Some p
-lock_back sizes p f =
-    let h = ltb-true _ _ f in
-    rw (same_byte (32 + p.0) (omega arith))
-    (simp (ne_eqb (32 + p.0) 64 (λ e. omega arith), le-leb 32 (32 + p.0) (omega arith), lower p.0, f) refl)
-  where
-    lower : (n : ℕ) → 32 + n - 32 ≡ n
-    lower n = omega arith
-
 pub lock_reads : (sizes : Sizes) {xs : List ℕ} {a : ℕ} {p : Place × ℕ} → Stands (λ q. party_bytes (Lock q)) (place_fits sizes) xs a p → F.lock_field sizes xs a ≡ Ok p
-lock_reads sizes {xs} {a} {p} s = sender sizes F.lock_of xs a ∙ picked_reads byte xs a _ _ p.0 p.1 (byte_reads s.piece) (lock_back sizes p.0 s.fit)
+lock_reads sizes {xs} {a} {p} s = sender sizes F.lock_of xs a ∙ picked_reads byte xs a _ _ p.0 p.1 (byte_reads s.piece) (grind (arith, nat_tests, s.fit))
 
 pub lock_found : (sizes : Sizes) (xs : List ℕ) → Bytes xs → (a : ℕ) (p : Place × ℕ) → F.lock_field sizes xs a ≡ Ok p → Stands (λ q. party_bytes (Lock q)) (place_fits sizes) xs a p
-lock_found sizes xs bytes a p e = byte_picked (λ n. F.lock_of (party_in sizes n)) (λ q. (32 + q.0) % 256) (place_fits sizes) xs bytes a p is (sym (sender sizes F.lock_of xs a) ∙ e)
-  where
-    is : (n : ℕ) → n < 256 → F.lock_of (party_in sizes n) ≡ Some p.0 → ((32 + p.0.0) % 256 ≡ n) × (place_fits sizes p.0 ≡ true)
-    is n h f =
-        let (g, k) = lock_by (eqb n 64) (leb 32 n) (place_in sizes (n - 32)) (seat_in sizes n) p.0 f in
-        let l = leb-true _ _ g in
-        let w = within_some _ _ _ k in
-        subst (λ (q : Place). ((32 + q.0) % 256 ≡ n) × (place_fits sizes q ≡ true)) w.1 (omega arith, w.0)
-
-controller_back : (sizes : Sizes) (s : Seat) → seat_fits sizes s ≡ true → F.controller_of (party_in sizes (s.0 % 256)) ≡ Some s
-controller_back sizes s f =
-    let h = ltb-true _ _ f in
-    rw (same_byte s.0 (omega arith))
-    (simp (ne_eqb s.0 64 (λ e. omega arith), lt-leb 32 s.0 (omega arith), f) refl)
+lock_found sizes xs bytes a p e = byte_picked (λ n. F.lock_of (party_in sizes n)) (λ q. (32 + q.0) % 256) (place_fits sizes) xs bytes a p (λ n h f. grind (arith, nat_tests)) (sym (sender sizes F.lock_of xs a) ∙ e)
 
 pub controller_reads : (sizes : Sizes) {xs : List ℕ} {a : ℕ} {p : Seat × ℕ} → Stands (λ q. party_bytes (Controller q)) (seat_fits sizes) xs a p → F.controller_field sizes xs a ≡ Ok p
-controller_reads sizes {xs} {a} {p} s = sender sizes F.controller_of xs a ∙ picked_reads byte xs a _ _ p.0 p.1 (byte_reads s.piece) (controller_back sizes p.0 s.fit)
+controller_reads sizes {xs} {a} {p} s = sender sizes F.controller_of xs a ∙ picked_reads byte xs a _ _ p.0 p.1 (byte_reads s.piece) (grind (arith, nat_tests, s.fit))
 
 pub controller_found : (sizes : Sizes) (xs : List ℕ) → Bytes xs → (a : ℕ) (p : Seat × ℕ) → F.controller_field sizes xs a ≡ Ok p → Stands (λ q. party_bytes (Controller q)) (seat_fits sizes) xs a p
-controller_found sizes xs bytes a p e = byte_picked (λ n. F.controller_of (party_in sizes n)) (λ q. q.0 % 256) (seat_fits sizes) xs bytes a p is (sym (sender sizes F.controller_of xs a) ∙ e)
-  where
-    is : (n : ℕ) → n < 256 → F.controller_of (party_in sizes n) ≡ Some p.0 → (p.0.0 % 256 ≡ n) × (seat_fits sizes p.0 ≡ true)
-    is n h f =
-        let k = controller_by (eqb n 64) (leb 32 n) (place_in sizes (n - 32)) (seat_in sizes n) p.0 f in
-        let w = within_some _ _ _ k in
-        subst (λ (q : Seat). (q.0 % 256 ≡ n) × (seat_fits sizes q ≡ true)) w.1 (same_byte n h, w.0)
+controller_found sizes xs bytes a p e = byte_picked (λ n. F.controller_of (party_in sizes n)) (λ q. q.0 % 256) (seat_fits sizes) xs bytes a p (λ n h f. grind (arith, nat_tests)) (sym (sender sizes F.controller_of xs a) ∙ e)
 
 pub office_reads : (sizes : Sizes) {xs : List ℕ} {a b : ℕ} → Piece xs a (party_bytes Office) b → F.office_field sizes xs a ≡ Ok (tt, b)
 office_reads sizes {xs} {a} {b} p = sender sizes F.office_of xs a ∙ picked_reads byte xs a _ _ tt b (byte_reads p) refl
 
 pub office_found : (sizes : Sizes) (xs : List ℕ) → Bytes xs → (a : ℕ) (p : Unit {0} × ℕ) → F.office_field sizes xs a ≡ Ok p → Piece xs a (party_bytes Office) p.1
-office_found sizes xs bytes a p e = (byte_picked (λ n. F.office_of (party_in sizes n)) (λ q. 64) (λ q. true) xs bytes a p is (sym (sender sizes F.office_of xs a) ∙ e)).piece
-  where
-    is : (n : ℕ) → n < 256 → F.office_of (party_in sizes n) ≡ Some p.0 → (64 ≡ n) × (true ≡ true)
-    is n h f = (sym (eqb-true n 64 (office_by (eqb n 64) (leb 32 n) (place_in sizes (n - 32)) (seat_in sizes n) p.0 f)), refl)
+office_found sizes xs bytes a p e = (byte_picked (λ n. F.office_of (party_in sizes n)) (λ q. 64) (λ q. true) xs bytes a p (λ n h f. grind (arith, nat_tests)) (sym (sender sizes F.office_of xs a) ∙ e)).piece
 
 -- ---- view, answer
 
 pub view_reads : {xs : List ℕ} {a : ℕ} {p : View × ℕ} → Piece xs a (view_bytes p.0) p.1 → F.view_field xs a ≡ Ok p
-view_reads {xs} {a} {p} s = mapped_reads byte xs a view_of p.0.0 p.1 (byte_reads s)
+view_reads {xs} {a} {p} s = picked_reads byte xs a (λ n. Some (view_of n)) _ p.0 p.1 (byte_reads s) refl
 
 pub view_found : (xs : List ℕ) → Bytes xs → (a : ℕ) (p : View × ℕ) → F.view_field xs a ≡ Ok p → Stands view_bytes (λ v. is_byte v.0) xs a p
-view_found xs bytes a p e =
-    let (n, e1, e2) = mapped_found byte xs a view_of p e in
-    let q = byte_found xs bytes a (n, p.1) e1 in
-    subst (λ (v : View). Stands view_bytes (λ v. is_byte v.0) xs a (v, p.1)) e2 (record { piece = q.0; fit = lt-ltb _ _ q.1 })
-
-answer_back : (a : Answer) → answer_of (answer_number a) ≡ Some a
-answer_back Ready = refl
-answer_back Refuse = refl
-
-answer_is : (x y : Bool) (a : Answer) → cond x (Some Ready) (cond y (Some Refuse) None) ≡ Some a → ((x ≡ true) × (a ≡ Ready)) ⊎ ((y ≡ true) × (a ≡ Refuse))
-answer_is true y a e = inl (refl, cc)
-answer_is false true a e = inr (refl, cc)
-answer_is false false a e = let z : ◌≡◌ {A = ℕ} 0 1 = cc in absurd (omega arith)
+view_found xs bytes a p e = byte_picked (λ n. Some (view_of n)) (λ v. v.0) (λ v. is_byte v.0) xs bytes a p (λ n h f. grind (arith, nat_tests)) e
 
 pub answer_reads : {xs : List ℕ} {a : ℕ} {p : Answer × ℕ} → Piece xs a (answer_bytes p.0) p.1 → F.answer_field xs a ≡ Ok p
-answer_reads {xs} {a} {p} s = picked_reads byte xs a answer_of _ p.0 p.1 (byte_reads s) (answer_back p.0)
+answer_reads {xs} {a} {p} s = picked_reads byte xs a answer_of _ p.0 p.1 (byte_reads s) (grind arith)
 
 pub answer_found : (xs : List ℕ) → Bytes xs → (a : ℕ) (p : Answer × ℕ) → F.answer_field xs a ≡ Ok p → Piece xs a (answer_bytes p.0) p.1
-answer_found xs bytes a p e = (byte_picked answer_of answer_number (λ q. true) xs bytes a p is e).piece
-  where
-    is : (n : ℕ) → n < 256 → answer_of n ≡ Some p.0 → (answer_number p.0 ≡ n) × (true ≡ true)
-    is n h f = elim (answer_is (eqb n 1) (eqb n 0) p.0 f) [
-      | inl w ↦ (ap answer_number w.1 ∙ sym (eqb-true _ _ w.0), refl)
-      | inr w ↦ (ap answer_number w.1 ∙ sym (eqb-true _ _ w.0), refl)
-    ]
+answer_found xs bytes a p e = (byte_picked answer_of answer_number (λ q. true) xs bytes a p (λ n h f. grind (arith, nat_tests)) e).piece
 
 -- ---- words
 
@@ -269,22 +151,16 @@ abbrev pub seal_fits : Seal → Bool
 seal_fits z = is_word z.0
 
 pub digest_reads : {xs : List ℕ} {a : ℕ} {p : Digest × ℕ} → Stands digest_bytes digest_fits xs a p → F.digest_field xs a ≡ Ok p
-digest_reads {xs} {a} {p} s = mapped_reads eight xs a digest p.0.0 p.1 (eight_reads s.piece (ltb-true _ _ s.fit))
+digest_reads {xs} {a} {p} s = picked_reads eight xs a (λ n. Some (digest n)) _ p.0 p.1 (eight_reads s.piece (ltb-true _ _ s.fit)) refl
 
 pub digest_found : (xs : List ℕ) → Bytes xs → (a : ℕ) (p : Digest × ℕ) → F.digest_field xs a ≡ Ok p → Stands digest_bytes digest_fits xs a p
-digest_found xs bytes a p e =
-    let (n, e1, e2) = mapped_found eight xs a digest p e in
-    let q = eight_found xs bytes a (n, p.1) e1 in
-    subst (λ (d : Digest). Stands digest_bytes digest_fits xs a (d, p.1)) e2 (record { piece = q.0; fit = lt-ltb _ _ q.1 })
+digest_found xs bytes a p e = picked_stands eight le8 (λ n. n < 2 ^ 64) (λ n. Some (digest n)) (λ d. d.0) digest_fits xs a p (eight_found xs bytes a) (λ n h f. grind (arith, nat_tests)) e
 
 pub seal_reads : {xs : List ℕ} {a : ℕ} {p : Seal × ℕ} → Stands seal_of seal_fits xs a p → F.seal_field xs a ≡ Ok p
-seal_reads {xs} {a} {p} s = mapped_reads eight xs a seal p.0.0 p.1 (eight_reads s.piece (ltb-true _ _ s.fit))
+seal_reads {xs} {a} {p} s = picked_reads eight xs a (λ n. Some (seal n)) _ p.0 p.1 (eight_reads s.piece (ltb-true _ _ s.fit)) refl
 
 pub seal_found : (xs : List ℕ) → Bytes xs → (a : ℕ) (p : Seal × ℕ) → F.seal_field xs a ≡ Ok p → Stands seal_of seal_fits xs a p
-seal_found xs bytes a p e =
-    let (n, e1, e2) = mapped_found eight xs a seal p e in
-    let q = eight_found xs bytes a (n, p.1) e1 in
-    subst (λ (d : Seal). Stands seal_of seal_fits xs a (d, p.1)) e2 (record { piece = q.0; fit = lt-ltb _ _ q.1 })
+seal_found xs bytes a p e = picked_stands eight le8 (λ n. n < 2 ^ 64) (λ n. Some (seal n)) (λ z. z.0) seal_fits xs a p (eight_found xs bytes a) (λ n h f. grind (arith, nat_tests)) e
 
 -- ---- number and outcome
 
@@ -300,15 +176,11 @@ number_reads {xs} {a} {p} s =
     picked_reads four xs a key_of p.0.0 p.0 p.1 (four_reads s.piece (omega arith)) (cond-true (is_key p.0.0) (Some p.0) None s.fit)
 
 pub number_found : (xs : List ℕ) → Bytes xs → (a : ℕ) (p : KeyNumber × ℕ) → F.number_field xs a ≡ Ok p → Stands key_bytes key_fits xs a p
-number_found xs bytes a p e =
-    let (n, e1, e2) = picked_found four xs a key_of p e in
-    let q = four_found xs bytes a (n, p.1) e1 in
-    let w = within_some (is_key n) (key n) p.0 e2 in
-    subst (λ (d : KeyNumber). Stands key_bytes key_fits xs a (d, p.1)) w.1 (record { piece = q; fit = w.0 })
+number_found xs bytes a p e = picked_stands four le4 (λ n. n < 4294967296) key_of (λ n. n.0) key_fits xs a p (four_found xs bytes a) (λ n h f. grind (arith, nat_tests)) e
 
 pub number_if_reads : {xs : List ℕ} {a : ℕ} (n : Option KeyNumber) (b : ℕ) → Stands number_bytes number_fits xs a (n, b) → F.number_if (is_some n) xs a ≡ Ok (n, b)
 number_if_reads {xs} {a} None b s = ap (λ k. Ok (None, k)) (omega (arith, s.piece.ends))
-number_if_reads {xs} {a} (Some n) b s = after (F.number_field xs a) (n, b) _ _ (number_reads (record { piece = s.piece; fit = s.fit })) refl
+number_if_reads {xs} {a} (Some n) b s = after _ (number_reads (record { piece = s.piece; fit = s.fit })) refl
 
 pub number_if_found : (t : Bool) (xs : List ℕ) → Bytes xs → (a : ℕ) → a ≤ length xs → (p : Option KeyNumber × ℕ) → F.number_if t xs a ≡ Ok p → Stands number_bytes number_fits xs a p × (t ≡ is_some p.0)
 number_if_found false xs bytes a h p e = subst (λ (q : Option KeyNumber × ℕ). Stands number_bytes number_fits xs a q × (false ≡ is_some q.0)) (ok_same e) (record { piece = nothing xs a h; fit = refl }, refl)
@@ -328,7 +200,7 @@ changes x = is_some (outcome_number x)
 
 pub outcome_reads : {xs : List ℕ} {a : ℕ} (x : Outcome) (b : ℕ) → Stands outcome_bytes outcome_fits xs a (x, b) → F.outcome_if (changes x) xs a ≡ Ok (x, b)
 outcome_reads {xs} {a} Keep b s = ap (λ k. Ok (Keep, k)) (omega (arith, s.piece.ends))
-outcome_reads {xs} {a} (Number n) b s = after (F.number_field xs a) (n, b) _ _ (number_reads (record { piece = s.piece; fit = s.fit })) refl
+outcome_reads {xs} {a} (Number n) b s = after _ (number_reads (record { piece = s.piece; fit = s.fit })) refl
 
 pub outcome_found : (t : Bool) (xs : List ℕ) → Bytes xs → (a : ℕ) → a ≤ length xs → (p : Outcome × ℕ) → F.outcome_if t xs a ≡ Ok p → Stands outcome_bytes outcome_fits xs a p × (t ≡ changes p.0)
 outcome_found false xs bytes a h p e = subst (λ (q : Outcome × ℕ). Stands outcome_bytes outcome_fits xs a q × (false ≡ changes q.0)) (ok_same e) (record { piece = nothing xs a h; fit = refl }, refl)

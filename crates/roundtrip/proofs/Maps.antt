@@ -1,9 +1,10 @@
 -- A letter's map: it fits the kind, and says which fields there are. And the movers.
-use Rattle.std.proofs.Common.{◌≡◌, ℕ, zero, suc, ◌+◌, ◌*◌, ◌/◌, ◌%◌, ◌^◌, ◌<◌, ◌≤◌, Bool, true, false, cond, not, ◌&&◌, eqb, ltb, List, [], length, is_some, Some, None, Ok, Option, sym, refl, ap, ◌∙◌, subst, ap₂, inl, inr, arith, pow_mono}
+use Rattle.std.proofs.Common.{◌≡◌, ℕ, ◌+◌, ◌*◌, ◌/◌, ◌%◌, ◌^◌, ◌<◌, ◌≤◌, Bool, true, false, cond, not, ◌&&◌, eqb, ltb, List, [], length, is_some, Some, None, Ok, Option, sym, refl, ap, ◌∙◌, subst, ap₂, inl, inr, arith, pow_mono}
 use lib.Bits.{bit_and}
 use lib.Count.{ones}
 use Rattle.std.proofs.lemmas.Nat.{and_mod, and_shr, and_mask}
-use Rattle.std.proofs.lemmas.Bool.{ltb-true, lt-ltb, eqb-true, eqb-false, eq-eqb, and_parts, and_from, or_cases}
+use Rattle.std.proofs.lemmas.Bool.Decides.{nat_tests}
+use Rattle.std.proofs.lemmas.Bool.{ltb-true, lt-ltb, eqb-true, eq-eqb, and_parts, and_from, or_cases}
 use Rattle.terms.specs.declared.numbers.KeyNumber.{KeyNumber}
 use Rattle.terms.specs.declared.numbers.View.{View}
 use Rattle.terms.specs.declared.sizes.Sizes.{Sizes}
@@ -26,55 +27,32 @@ use Rattle.roundtrip.proofs.Certificates.{map_low, low_map}
 use Rattle.roundtrip.proofs.Bases.{numbered_in}
 
 -- a map that fits its kind
-pub record MapFits (k : Kind) (m : ℕ) : Type 0 where
-  pub small : ltb m 8192 ≡ true
-  pub first : stands m 0 ≡ true
-  pub fit : fits k m ≡ true
+abbrev pub MapFits : Kind → ℕ → Type 0
+MapFits k m = ((ltb m 8192 && stands m 0) ≡ true) × (fits k m ≡ true)
 
 abbrev pub order_map : Option KeyNumber → ℕ
 order_map n = common + number_bit n
 
 pub order_fits_lem : (n : Option KeyNumber) → MapFits K.Order (order_map n) × MapFits K.Result (order_map n) × (stands (order_map n) 5 ≡ is_some n)
-order_fits_lem None = (record { small = refl; first = refl; fit = refl }, record { small = refl; first = refl; fit = refl }, refl)
-order_fits_lem (Some n) = (record { small = refl; first = refl; fit = refl }, record { small = refl; first = refl; fit = refl }, refl)
+order_fits_lem n = grind arith
 
 abbrev pub viewed_map : Option KeyNumber → ℕ
 viewed_map n = common + bit 4 + number_bit n + bit 7
 
 pub viewed_fits : (n : Option KeyNumber) → MapFits K.Assent (viewed_map n) × MapFits K.Confirm (viewed_map n) × (stands (viewed_map n) 5 ≡ is_some n)
-viewed_fits None = (record { small = refl; first = refl; fit = refl }, record { small = refl; first = refl; fit = refl }, refl)
-viewed_fits (Some n) = (record { small = refl; first = refl; fit = refl }, record { small = refl; first = refl; fit = refl }, refl)
+viewed_fits n = grind arith
 
 abbrev pub proposal_map : Option KeyNumber → Bool → ℕ
 proposal_map n moved = common + bit 4 + number_bit n + bit 10 + cond moved (bit 11) 0
 
 pub proposal_fits : (n : Option KeyNumber) (moved : Bool) → MapFits K.Proposal (proposal_map n moved) × (stands (proposal_map n moved) 5 ≡ is_some n) × (stands (proposal_map n moved) 11 ≡ moved)
-proposal_fits None true = (record { small = refl; first = refl; fit = refl }, refl, refl)
-proposal_fits None false = (record { small = refl; first = refl; fit = refl }, refl, refl)
-proposal_fits (Some n) true = (record { small = refl; first = refl; fit = refl }, refl, refl)
-proposal_fits (Some n) false = (record { small = refl; first = refl; fit = refl }, refl, refl)
+proposal_fits n moved = grind arith
 
 pub movers_bit_lem : (x : Bool) → cond x 0 (bit 11) ≡ cond (not x) (bit 11) 0
-movers_bit_lem true = refl
-movers_bit_lem false = refl
-
--- by the number of its outcome, of a move's grounds
-abbrev pub grounds_map : Option (Option KeyNumber) → ℕ
-grounds_map None = common + bit 4
-grounds_map (Some n) = common + bit 4 + number_bit n + bit 9 + bit 10
-
-abbrev flag_of : Option (Option KeyNumber) → Bool
-flag_of None = false
-flag_of (Some n) = is_some n
-
-move_by : (g : Option (Option KeyNumber)) → MapFits K.Move (grounds_map g) × (stands (grounds_map g) 9 ≡ is_some g) × (stands (grounds_map g) 5 ≡ flag_of g)
-move_by None = (record { small = refl; first = refl; fit = refl }, refl, refl)
-move_by (Some None) = (record { small = refl; first = refl; fit = refl }, refl, refl)
-move_by (Some (Some n)) = (record { small = refl; first = refl; fit = refl }, refl, refl)
+movers_bit_lem x = grind arith
 
 pub move_fits : (b : Option Basis) → MapFits K.Move (move_map b) × (stands (move_map b) 9 ≡ is_some b) × (stands (move_map b) 5 ≡ numbered_in b)
-move_fits None = move_by None
-move_fits (Some b) = move_by (Some (outcome_number b.outcome))
+move_fits b = grind arith
 
 -- ---- movers
 
@@ -86,7 +64,7 @@ movers_read_by true sizes s {xs} {a} {e} f p = ap₂ (λ (n k : ℕ). Ok (seat_s
 movers_read_by false sizes s {xs} {a} {e} f p =
     let g = and_parts (ltb s.0 (2 ^ seat_count sizes)) (eqb (ones s.0) (quorum_of sizes)) f in
     let h = ltb-true _ _ g.0 in
-    after (F.two xs a) (s.0, e) _ _ (two_reads p (seats_below sizes s.0 h)) (pass _ a _ _ (and_from _ _ (eq-eqb _ _ (map_low s.0 (seat_count sizes) h)) g.1) refl)
+    after _ (two_reads p (seats_below sizes s.0 h)) (pass _ a _ _ (and_from _ _ (eq-eqb _ _ (map_low s.0 (seat_count sizes) h)) g.1) refl)
 
 pub movers_read : (v : View) (sizes : Sizes) (s : SeatSet) {xs : List ℕ} {a e : ℕ} → movers_fit sizes v s.0 ≡ true → Piece xs a (movers_bytes v s) e → F.movers_if (not (eqb v.0 0)) sizes xs a ≡ Ok (s, e)
 movers_read v sizes s f p = movers_read_by (eqb v.0 0) sizes s f p
@@ -103,9 +81,9 @@ movers_found_by false sizes xs bytes a h p e =
     let (s, b) = two_found xs bytes a q e1 in
     subst (MoversBy false sizes xs a) (ok_same e3) (s, and_from _ _ (lt-ltb _ _ (low_map _ _ (eqb-true _ _ g.0))) g.1))
 
-pub movers_found : (v : View) (moved : Bool) (sizes : Sizes) (xs : List ℕ) → Bytes xs → (a : ℕ) → a ≤ length xs → (p : SeatSet × ℕ) → moved ≡ not (eqb v.0 0) → F.movers_if moved sizes xs a ≡ Ok p
+pub movers_found : (v : View) (moved : Bool) (sizes : Sizes) (xs : List ℕ) → Bytes xs → (a : ℕ) → a ≤ length xs → moved ≡ not (eqb v.0 0) → (p : SeatSet × ℕ) → F.movers_if moved sizes xs a ≡ Ok p
     → Piece xs a (movers_bytes v p.0) p.1 × (movers_fit sizes v p.0.0 ≡ true)
-movers_found v moved sizes xs bytes a h p m e = movers_found_by (eqb v.0 0) sizes xs bytes a h p (subst (λ x. F.movers_if x sizes xs a ≡ Ok p) m e)
+movers_found v moved sizes xs bytes a h m p e = movers_found_by (eqb v.0 0) sizes xs bytes a h p (subst (λ x. F.movers_if x sizes xs a ≡ Ok p) m e)
 
 -- ---- the map of what was read
 
@@ -118,16 +96,10 @@ based = common + bit 4 + bit 9 + bit 10
 
 -- a map is known, but for its number's bit
 without_number : (m c : ℕ) → m < 8192 → bit_and m 65503 ≡ c → c / 32 % 2 ≡ 0 → m ≡ c + m / 32 % 2 * 32
-without_number m c h e z =
-    let low : bit_and m 65503 % 32 ≡ m % 32 % 32 = and_mod m 65503 5 ∙ and_mask (m % 32) 5 in
-    let high : bit_and m 65503 / 64 ≡ m / 64 % 1024 = and_shr m 65503 6 ∙ and_mask (m / 64) 10 in
-    let low' : c % 32 ≡ m % 32 % 32 = ap (λ x. x % 32) (sym e) ∙ low in
-    let high' : c / 64 ≡ m / 64 % 1024 = ap (λ x. x / 64) (sym e) ∙ high in
-    omega arith
+without_number m c h e z = omega (arith, and_mod m 65503 5, and_mask (m % 32) 5, and_shr m 65503 6, and_mask (m / 64) 10)
 
 bit_is : (n : Option KeyNumber) (k : ℕ) → k % 2 ≡ k → eqb k 1 ≡ is_some n → k * 32 ≡ number_bit n
-bit_is None k h e = let f = eqb-false k 1 e in omega (arith, f)
-bit_is (Some n) k h e = let f = eqb-true k 1 e in omega arith
+bit_is n k h e = grind (arith, nat_tests)
 
 numbered_map : (m c : ℕ) (n : Option KeyNumber) → ltb m 8192 ≡ true → eqb (bit_and m 65503) c ≡ true → c / 32 % 2 ≡ 0 → stands m 5 ≡ is_some n → m ≡ c + number_bit n
 numbered_map m c n h e z s = without_number m c (ltb-true _ _ h) (eqb-true _ _ e) z ∙ ap (λ x. c + x) (bit_is n (m / 32 % 2) (omega arith) s)
@@ -140,36 +112,19 @@ viewed_map_lem m n h e s = let r = numbered_map m (common + bit 4 + bit 7) n h e
 
 -- the same, but for the movers' bit too
 without_both : (m : ℕ) → m < 8192 → bit_and m 63455 ≡ proposed → m ≡ proposed + m / 32 % 2 * 32 + m / 2048 % 2 * 2048
-without_both m h e =
-    let low : bit_and m 63455 % 32 ≡ m % 32 % 32 = and_mod m 63455 5 ∙ and_mask (m % 32) 5 in
-    let mid : bit_and (m / 64) 991 % 32 ≡ m / 64 % 32 % 32 = and_mod (m / 64) 991 5 ∙ and_mask (m / 64 % 32) 5 in
-    let mid' : bit_and m 63455 / 64 ≡ bit_and (m / 64) 991 = and_shr m 63455 6 in
-    let high : bit_and m 63455 / 4096 ≡ m / 4096 % 16 = and_shr m 63455 12 ∙ and_mask (m / 4096) 4 in
-    let low₁ : proposed % 32 ≡ m % 32 % 32 = ap (λ x. x % 32) (sym e) ∙ low in
-    let mid₁ : proposed / 64 % 32 ≡ m / 64 % 32 % 32 = ap (λ x. x / 64 % 32) (sym e) ∙ (ap (λ x. x % 32) mid' ∙ mid) in
-    let high₁ : proposed / 4096 ≡ m / 4096 % 16 = ap (λ x. x / 4096) (sym e) ∙ high in
-    omega arith
-
-movers_is : (x : Bool) (k : ℕ) → k % 2 ≡ k → eqb k 1 ≡ not x → k * 2048 ≡ cond x 0 (bit 11)
-movers_is true k h e = let f = eqb-false k 1 e in omega (arith, f)
-movers_is false k h e = let f = eqb-true k 1 e in omega arith
+without_both m h e = omega (arith, and_mod m 63455 5, and_mask (m % 32) 5, and_mod (m / 64) 991 5, and_mask (m / 64 % 32) 5, and_shr m 63455 6, and_shr m 63455 12, and_mask (m / 4096) 4)
 
 pub proposal_map_lem : (m : ℕ) (n : Option KeyNumber) (x : Bool) → ltb m 8192 ≡ true → fits K.Proposal m ≡ true → stands m 5 ≡ is_some n → stands m 11 ≡ not x → m ≡ common + bit 4 + number_bit n + bit 10 + cond x 0 (bit 11)
 proposal_map_lem m n x h e s t =
     let r = without_both m (ltb-true _ _ h) (eqb-true _ _ e) in
     let p = bit_is n (m / 32 % 2) (omega arith) s in
-    let q = movers_is x (m / 2048 % 2) (omega arith) t in
+    let q : m / 2048 % 2 * 2048 ≡ cond x 0 (bit 11) = grind (arith, nat_tests, t) in
     omega arith
-
-with_basis : (m k : ℕ) → k < 2 → m ≡ based + k * 32 → m / 512 % 2 ≡ 1
-with_basis m zero h e = ap (λ x. x / 512 % 2) e
-with_basis m (suc zero) h e = ap (λ x. x / 512 % 2) e
-with_basis m (suc (suc k)) h e = absurd (omega arith)
 
 pub move_map_lem : (m : ℕ) (b : Option Basis) → ltb m 8192 ≡ true → fits K.Move m ≡ true → stands m 9 ≡ is_some b → (stands m 9 ≡ true → stands m 5 ≡ numbered_in b) → m ≡ move_map b
 move_map_lem m None h e s n = elim (or_cases (eqb m (common + bit 4)) _ e) [
   | inl f ↦ eqb-true _ _ f
-  | inr f ↦ (let r = without_number m based (ltb-true _ _ h) (eqb-true _ _ f) refl in let z = eqb-false (m / 512 % 2) 1 s in absurd (z (with_basis m (m / 32 % 2) (omega arith) r)))
+  | inr f ↦ (let r = without_number m based (ltb-true _ _ h) (eqb-true _ _ f) refl in grind (arith, nat_tests, s))
 ]
 move_map_lem m (Some b) h e s n = elim (or_cases (eqb m (common + bit 4)) _ e) [
   | inl f ↦ (let r : m ≡ common + bit 4 = eqb-true _ _ f in let z = eqb-true (m / 512 % 2) 1 s in absurd (omega arith))

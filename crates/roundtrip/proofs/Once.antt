@@ -1,5 +1,5 @@
 -- What is read has the bytes of the letter kept, and is within range.
-use Rattle.std.proofs.Common.{◌≡◌, ℕ, ◌+◌, ◌/◌, ◌%◌, Bool, true, false, cond, not, ◌&&◌, eqb, ltb, leb, List, [], ◌∷◌, length, Some, None, Ok, Option, sym, refl, ap, subst, arith}
+use Rattle.std.proofs.Common.{◌≡◌, ℕ, ◌+◌, ◌/◌, ◌%◌, Bool, true, cond, not, ◌&&◌, eqb, ltb, leb, List, [], ◌∷◌, length, Some, Ok, sym, ap, subst, arith}
 use Rattle.std.proofs.lemmas.Bool.{leb-true, ltb-true, eqb-true, and_parts, and_from}
 use Rattle.terms.specs.declared.numbers.Change.{Change}
 use Rattle.terms.specs.declared.sizes.Sizes.{Sizes}
@@ -17,12 +17,11 @@ use Rattle.letters.specs.Sorts.{stands}
 use Rattle.letters.specs.Statements.{outcome_number}
 use Rattle.reading.specs.Fields as F
 use Rattle.reading.specs.Parts.{Span, Spans}
-use Rattle.reading.specs.Spans.{certificate_field, grounds_if}
 use Rattle.reading.specs.Form.{fits, fit, leads, proposal_view_fits, body_field, read}
 use Rattle.kept.specs.Kept.{certificate_in, basis_in, kept}
 use Rattle.roundtrip.specs.Laws.{Bytes, certificate_part, OneForm, WhatIsReadIsInRange, KeptCertificateHasTheSameBytes, KeptCertificateHasTheSameDigest}
 use Rattle.roundtrip.proofs.Pieces.{Piece, join, all_of}
-use Rattle.roundtrip.proofs.Steps.{step, passed, chosen, ok_same, two_found}
+use Rattle.roundtrip.proofs.Steps.{step, found, passed, chosen, ok_same, two_found}
 use Rattle.roundtrip.proofs.Fields as R
 use Rattle.roundtrip.proofs.Certificates.{parts_fit, certificate_found, certified_is, same_certificate}
 use Rattle.roundtrip.proofs.Bases.{grounds_found}
@@ -35,97 +34,64 @@ record BodyFound (sizes : Sizes) (t : Change) (xs : List ℕ) (p : Body Span Spa
   fit : body_fits sizes t (keep_body p.0) ≡ true
   same : (c : Span) → certificate_part p.0 ≡ Some c → certificate_bytes (certificate_in c.bytes) ≡ c.bytes
 
-no_certificate : (c : Span) → ◌≡◌ {A = Option Span} None (Some c) → certificate_bytes (certificate_in c.bytes) ≡ c.bytes
-no_certificate c e = let z : ◌≡◌ {A = ℕ} 0 1 = cc in absurd (omega arith)
-
 moved_is : (l moved z : Bool) → (l && cond moved (not z) z) ≡ true → (l ≡ true) × (moved ≡ not z)
-moved_is true true true e = (refl, sym e)
-moved_is true true false e = (refl, refl)
-moved_is true false true e = (refl, refl)
-moved_is true false false e = (refl, e)
-moved_is false moved z e = let w : ◌≡◌ {A = ℕ} 0 1 = cc in absurd (omega arith)
+moved_is l moved z e = grind arith
 
 module _ (sizes : Sizes) (t : Change) (m : ℕ) (xs : List ℕ) (bytes : Bytes xs) (small : ltb m 8192 ≡ true) (o : ℕ) (p : Body Span Spans × ℕ) where
   -- what every letter begins with, by its own map
   starts : (k : Kind) (n : ℕ) → m ≡ n → Piece xs 0 (begin m k t) o → Piece xs 0 (begin n k t) o
   starts k n e q = subst (λ x. Piece xs 0 (begin x k t) o) e q
 
-  enrol_found : Piece xs 0 (begin m K.Enrol t) o → fits K.Enrol m ≡ true → body_field sizes t m K.Enrol xs o ≡ Ok p → BodyFound sizes t xs p
-  enrol_found b f e =
-      step (F.lock_field sizes xs o) _ p e (λ q1 e1 d1.
-      let s1 = R.lock_found sizes xs bytes o q1 e1 in
+  body_found : (k : Kind) → Piece xs 0 (begin m k t) o → fits k m ≡ true → body_field sizes t m k xs o ≡ Ok p → BodyFound sizes t xs p
+  body_found K.Enrol b f e =
+      found _ p (R.lock_found sizes xs bytes o) e (λ q1 s1 d1.
       subst (BodyFound sizes t xs) (ok_same d1) (record {
         piece = join (starts K.Enrol common (eqb-true _ _ f) b) s1.piece;
         fit = s1.fit;
-        same = no_certificate;
+        same = λ c e. cc;
       }))
-
-  receipt_found : Piece xs 0 (begin m K.Receipt t) o → fits K.Receipt m ≡ true → body_field sizes t m K.Receipt xs o ≡ Ok p → BodyFound sizes t xs p
-  receipt_found b f e =
-      step (F.controller_field sizes xs o) _ p e (λ q1 e1 d1.
-      step (F.place_field sizes xs q1.1) _ p d1 (λ q2 e2 d2.
-      let s1 = R.controller_found sizes xs bytes o q1 e1 in
-      let s2 = R.place_found sizes xs bytes q1.1 q2 e2 in
+  body_found K.Receipt b f e =
+      found _ p (R.controller_found sizes xs bytes o) e (λ q1 s1 d1.
+      found _ p (R.place_found sizes xs bytes q1.1) d1 (λ q2 s2 d2.
       subst (BodyFound sizes t xs) (ok_same d2) (record {
         piece = join (join (starts K.Receipt (common + bit 3) (eqb-true _ _ f) b) s1.piece) s2.piece;
         fit = and_from _ _ s1.fit s2.fit;
-        same = no_certificate;
+        same = λ c e. cc;
       })))
-
-  order_found : Piece xs 0 (begin m K.Order t) o → fits K.Order m ≡ true → body_field sizes t m K.Order xs o ≡ Ok p → BodyFound sizes t xs p
-  order_found b f e =
-      step (F.office_field sizes xs o) _ p e (λ q1 e1 d1.
-      step (F.number_if (stands m 5) xs q1.1) _ p d1 (λ q2 e2 d2.
-      let s1 = R.office_found sizes xs bytes o q1 e1 in
-      let s2 = R.number_if_found (stands m 5) xs bytes q1.1 s1.within q2 e2 in
+  body_found K.Order b f e =
+      found _ p (R.office_found sizes xs bytes o) e (λ q1 s1 d1.
+      found _ p (R.number_if_found (stands m 5) xs bytes q1.1 s1.within) d1 (λ q2 s2 d2.
       subst (BodyFound sizes t xs) (ok_same d2) (record {
         piece = join (join (starts K.Order _ (order_map_lem m q2.0 small f s2.1) b) s1) s2.0.piece;
         fit = s2.0.fit;
-        same = no_certificate;
+        same = λ c e. cc;
       })))
-
-  summons_found : Piece xs 0 (begin m K.Summons t) o → fits K.Summons m ≡ true → body_field sizes t m K.Summons xs o ≡ Ok p → BodyFound sizes t xs p
-  summons_found b f e =
-      step (F.controller_field sizes xs o) _ p e (λ q1 e1 d1.
-      step (F.number_field xs q1.1) _ p d1 (λ q2 e2 d2.
-      step (F.seal_field xs q2.1) _ p d2 (λ q3 e3 d3.
-      let s1 = R.controller_found sizes xs bytes o q1 e1 in
-      let s2 = R.number_found xs bytes q1.1 q2 e2 in
-      let s3 = R.seal_found xs bytes q2.1 q3 e3 in
+  body_found K.Summons b f e =
+      found _ p (R.controller_found sizes xs bytes o) e (λ q1 s1 d1.
+      found _ p (R.number_found xs bytes q1.1) d1 (λ q2 s2 d2.
+      found _ p (R.seal_found xs bytes q2.1) d2 (λ q3 s3 d3.
       subst (BodyFound sizes t xs) (ok_same d3) (record {
         piece = join (join (join (starts K.Summons (common + bit 5 + bit 8) (eqb-true _ _ f) b) s1.piece) s2.piece) s3.piece;
         fit = and_from _ _ s1.fit (and_from _ _ s2.fit s3.fit);
-        same = no_certificate;
+        same = λ c e. cc;
       }))))
-
-  vote_found : Piece xs 0 (begin m K.Vote t) o → fits K.Vote m ≡ true → body_field sizes t m K.Vote xs o ≡ Ok p → BodyFound sizes t xs p
-  vote_found b f e =
-      step (F.lock_field sizes xs o) _ p e (λ q1 e1 d1.
-      step (F.number_field xs q1.1) _ p d1 (λ q2 e2 d2.
-      step (F.answer_field xs q2.1) _ p d2 (λ q3 e3 d3.
-      let s1 = R.lock_found sizes xs bytes o q1 e1 in
-      let s2 = R.number_found xs bytes q1.1 q2 e2 in
-      let s3 = R.answer_found xs bytes q2.1 q3 e3 in
+  body_found K.Vote b f e =
+      found _ p (R.lock_found sizes xs bytes o) e (λ q1 s1 d1.
+      found _ p (R.number_found xs bytes q1.1) d1 (λ q2 s2 d2.
+      found _ p (R.answer_found xs bytes q2.1) d2 (λ q3 s3 d3.
       subst (BodyFound sizes t xs) (ok_same d3) (record {
         piece = join (join (join (starts K.Vote (common + bit 5 + bit 6) (eqb-true _ _ f) b) s1.piece) s2.piece) s3;
         fit = and_from _ _ s1.fit s2.fit;
-        same = no_certificate;
+        same = λ c e. cc;
       }))))
-
-  proposal_found : Piece xs 0 (begin m K.Proposal t) o → fits K.Proposal m ≡ true → body_field sizes t m K.Proposal xs o ≡ Ok p → BodyFound sizes t xs p
-  proposal_found b f e =
-      step (F.controller_field sizes xs o) _ p e (λ q1 e1 d1.
-      step (F.view_field xs q1.1) _ p d1 (λ q2 e2 d2.
+  body_found K.Proposal b f e =
+      found _ p (R.controller_found sizes xs bytes o) e (λ q1 s1 d1.
+      found _ p (R.view_found xs bytes q1.1) d1 (λ q2 s2 d2.
       let (v2, d2') = passed (proposal_view_fits sizes t q2.0 q1.0 (stands m 11)) q1.1 _ p d2 in
-      step (F.outcome_if (stands m 5) xs q2.1) _ p d2' (λ q3 e3 d3.
-      step (certificate_field sizes xs q3.1) _ p d3 (λ q4 e4 d4.
-      step (F.movers_if (stands m 11) sizes xs q4.1) _ p d4 (λ q5 e5 d5.
+      found _ p (R.outcome_found (stands m 5) xs bytes q2.1 s2.piece.within) d2' (λ q3 s3 d3.
+      found _ p (certificate_found sizes xs bytes q3.1) d3 (λ q4 s4 d4.
       let (l, moved) = moved_is (leads sizes t q2.0 q1.0) (stands m 11) (eqb q2.0.0 0) v2 in
-      let s1 = R.controller_found sizes xs bytes o q1 e1 in
-      let s2 = R.view_found xs bytes q1.1 q2 e2 in
-      let s3 = R.outcome_found (stands m 5) xs bytes q2.1 s2.piece.within q3 e3 in
-      let s4 = certificate_found sizes xs bytes q3.1 q4 e4 in
-      let s5 = movers_found q2.0 (stands m 11) sizes xs bytes q4.1 s4.piece.within q5 moved e5 in
+      found _ p (movers_found q2.0 (stands m 11) sizes xs bytes q4.1 s4.piece.within moved) d4 (λ q5 s5 d5.
       let c = certified_is sizes xs q3.1 q4 s4 in
       let c4 = subst (λ (c : Certificate). Piece xs q3.1 (certificate_bytes c) q4.1) (sym c) s4.piece in
       let f4 = subst (λ (c : Certificate). certificate_fits sizes c ≡ true) (sym c) (parts_fit sizes s4.certificate s4.fits) in
@@ -135,81 +101,48 @@ module _ (sizes : Sizes) (t : Change) (m : ℕ) (xs : List ℕ) (bytes : Bytes x
         fit = and_from _ _ s2.fit (and_from _ _ l (and_from _ _ s3.0.fit (and_from _ _ f4 s5.1)));
         same = λ c g. same_certificate sizes xs q3.1 q4 s4 c g;
       }))))))
-
-  assent_found : Piece xs 0 (begin m K.Assent t) o → fits K.Assent m ≡ true → body_field sizes t m K.Assent xs o ≡ Ok p → BodyFound sizes t xs p
-  assent_found b f e =
-      step (F.controller_field sizes xs o) _ p e (λ q1 e1 d1.
-      step (F.view_field xs q1.1) _ p d1 (λ q2 e2 d2.
+  body_found K.Assent b f e =
+      found _ p (R.controller_found sizes xs bytes o) e (λ q1 s1 d1.
+      found _ p (R.view_found xs bytes q1.1) d1 (λ q2 s2 d2.
       let (v2, d2') = passed (not (leads sizes t q2.0 q1.0)) q1.1 _ p d2 in
-      step (F.outcome_if (stands m 5) xs q2.1) _ p d2' (λ q3 e3 d3.
-      step (F.digest_field xs q3.1) _ p d3 (λ q4 e4 d4.
-      let s1 = R.controller_found sizes xs bytes o q1 e1 in
-      let s2 = R.view_found xs bytes q1.1 q2 e2 in
-      let s3 = R.outcome_found (stands m 5) xs bytes q2.1 s2.piece.within q3 e3 in
-      let s4 = R.digest_found xs bytes q3.1 q4 e4 in
+      found _ p (R.outcome_found (stands m 5) xs bytes q2.1 s2.piece.within) d2' (λ q3 s3 d3.
+      found _ p (R.digest_found xs bytes q3.1) d3 (λ q4 s4 d4.
       let b' = starts K.Assent _ (viewed_map_lem m (outcome_number q3.0) small f s3.1) b in
       subst (BodyFound sizes t xs) (ok_same d4) (record {
         piece = join (join (join (join b' s1.piece) s2.piece) s3.0.piece) s4.piece;
         fit = and_from _ _ s1.fit (and_from _ _ s2.fit (and_from _ _ v2 (and_from _ _ s3.0.fit s4.fit)));
-        same = no_certificate;
+        same = λ c e. cc;
       })))))
-
-  confirm_found : Piece xs 0 (begin m K.Confirm t) o → fits K.Confirm m ≡ true → body_field sizes t m K.Confirm xs o ≡ Ok p → BodyFound sizes t xs p
-  confirm_found b f e =
-      step (F.controller_field sizes xs o) _ p e (λ q1 e1 d1.
-      step (F.view_field xs q1.1) _ p d1 (λ q2 e2 d2.
-      step (F.outcome_if (stands m 5) xs q2.1) _ p d2 (λ q3 e3 d3.
-      step (F.digest_field xs q3.1) _ p d3 (λ q4 e4 d4.
-      let s1 = R.controller_found sizes xs bytes o q1 e1 in
-      let s2 = R.view_found xs bytes q1.1 q2 e2 in
-      let s3 = R.outcome_found (stands m 5) xs bytes q2.1 s2.piece.within q3 e3 in
-      let s4 = R.digest_found xs bytes q3.1 q4 e4 in
+  body_found K.Confirm b f e =
+      found _ p (R.controller_found sizes xs bytes o) e (λ q1 s1 d1.
+      found _ p (R.view_found xs bytes q1.1) d1 (λ q2 s2 d2.
+      found _ p (R.outcome_found (stands m 5) xs bytes q2.1 s2.piece.within) d2 (λ q3 s3 d3.
+      found _ p (R.digest_found xs bytes q3.1) d3 (λ q4 s4 d4.
       let b' = starts K.Confirm _ (viewed_map_lem m (outcome_number q3.0) small f s3.1) b in
       subst (BodyFound sizes t xs) (ok_same d4) (record {
         piece = join (join (join (join b' s1.piece) s2.piece) s3.0.piece) s4.piece;
         fit = and_from _ _ s1.fit (and_from _ _ s2.fit (and_from _ _ s3.0.fit s4.fit));
-        same = no_certificate;
+        same = λ c e. cc;
       })))))
-
-  result_found : Piece xs 0 (begin m K.Result t) o → fits K.Result m ≡ true → body_field sizes t m K.Result xs o ≡ Ok p → BodyFound sizes t xs p
-  result_found b f e =
-      step (F.controller_field sizes xs o) _ p e (λ q1 e1 d1.
-      step (F.outcome_if (stands m 5) xs q1.1) _ p d1 (λ q2 e2 d2.
-      let s1 = R.controller_found sizes xs bytes o q1 e1 in
-      let s2 = R.outcome_found (stands m 5) xs bytes q1.1 s1.piece.within q2 e2 in
+  body_found K.Result b f e =
+      found _ p (R.controller_found sizes xs bytes o) e (λ q1 s1 d1.
+      found _ p (R.outcome_found (stands m 5) xs bytes q1.1 s1.piece.within) d1 (λ q2 s2 d2.
       subst (BodyFound sizes t xs) (ok_same d2) (record {
         piece = join (join (starts K.Result _ (order_map_lem m (outcome_number q2.0) small f s2.1) b) s1.piece) s2.0.piece;
         fit = and_from _ _ s1.fit s2.0.fit;
-        same = no_certificate;
+        same = λ c e. cc;
       })))
-
-  move_found : Piece xs 0 (begin m K.Move t) o → fits K.Move m ≡ true → body_field sizes t m K.Move xs o ≡ Ok p → BodyFound sizes t xs p
-  move_found b f e =
-      step (F.controller_field sizes xs o) _ p e (λ q1 e1 d1.
-      step (F.view_field xs q1.1) _ p d1 (λ q2 e2 d2.
+  body_found K.Move b f e =
+      found _ p (R.controller_found sizes xs bytes o) e (λ q1 s1 d1.
+      found _ p (R.view_found xs bytes q1.1) d1 (λ q2 s2 d2.
       let (v2, d2') = passed (not (eqb q2.0.0 0)) q1.1 _ p d2 in
-      step (grounds_if (stands m 9) (stands m 5) sizes t q2.0 xs q2.1) _ p d2' (λ q3 e3 d3.
-      let s1 = R.controller_found sizes xs bytes o q1 e1 in
-      let s2 = R.view_found xs bytes q1.1 q2 e2 in
-      let s3 = grounds_found sizes t q2.0 (stands m 9) (stands m 5) xs bytes q2.1 s2.piece.within q3 e3 in
+      found _ p (grounds_found sizes t q2.0 (stands m 9) (stands m 5) xs bytes q2.1 s2.piece.within) d2' (λ q3 s3 d3.
       let b' = starts K.Move _ (move_map_lem m (each_basis basis_in q3.0) small f s3.some s3.outcome) b in
       subst (BodyFound sizes t xs) (ok_same d3) (record {
         piece = join (join (join b' s1.piece) s2.piece) s3.piece;
         fit = and_from _ _ s1.fit (and_from _ _ s2.fit (and_from _ _ v2 s3.fit));
         same = s3.same;
       }))))
-
-  body_found : (k : Kind) → Piece xs 0 (begin m k t) o → fits k m ≡ true → body_field sizes t m k xs o ≡ Ok p → BodyFound sizes t xs p
-  body_found K.Enrol b f e = enrol_found b f e
-  body_found K.Receipt b f e = receipt_found b f e
-  body_found K.Order b f e = order_found b f e
-  body_found K.Summons b f e = summons_found b f e
-  body_found K.Vote b f e = vote_found b f e
-  body_found K.Proposal b f e = proposal_found b f e
-  body_found K.Assent b f e = assent_found b f e
-  body_found K.Confirm b f e = confirm_found b f e
-  body_found K.Result b f e = result_found b f e
-  body_found K.Move b f e = move_found b f e
 
 -- ---- the whole letter
 
@@ -234,19 +167,14 @@ map_found xs bytes a p e =
 
 letter_found : (sizes : Sizes) (xs : List ℕ) (l : Letter Span Spans) → Bytes xs → read sizes xs ≡ Ok l → LetterFound sizes xs l
 letter_found sizes xs l bytes e =
-    step (F.map_field xs 0) _ l e (λ q1 e1 d1.
-    step (F.kind_field xs q1.1) _ l d1 (λ q2 e2 d2.
+    found _ l (map_found xs bytes 0) e (λ q1 s1 d1.
+    found _ l (R.kind_found xs bytes q1.1) d1 (λ q2 s2 d2.
     step (fit q2.0 q1.0) _ l d2 (λ q3 e3 d3.
-    step (F.change_field xs q2.1) _ l d3 (λ q4 e4 d4.
-    step (body_field sizes q4.0 q1.0 q2.0 xs q4.1) _ l d4 (λ q5 e5 d5.
-    step (F.seal_field xs q5.1) _ l d5 (λ q6 e6 d6.
-    step (F.ended xs q6.1) _ l d6 (λ q7 e7 d7.
-    let (s1, small) = map_found xs bytes 0 q1 e1 in
-    let s2 = R.kind_found xs bytes q1.1 q2 e2 in
+    found _ l (R.change_found xs bytes q2.1) d3 (λ q4 s4 d4.
     let f3 = (chosen (fits q2.0 q1.0) tt _ q3 e3).0 in
-    let s4 = R.change_found xs bytes q2.1 q4 e4 in
-    let s5 = body_found sizes q4.0 q1.0 xs bytes small q4.1 q5 q2.0 (join s1 (join s2 s4.piece)) f3 e5 in
-    let s6 = R.seal_found xs bytes q5.1 q6 e6 in
+    found _ l (λ q. body_found sizes q4.0 q1.0 xs bytes s1.1 q4.1 q q2.0 (join s1.0 (join s2 s4.piece)) f3) d4 (λ q5 s5 d5.
+    found _ l (R.seal_found xs bytes q5.1) d5 (λ q6 s6 d6.
+    step (F.ended xs q6.1) _ l d6 (λ q7 e7 d7.
     let f7 = leb-true _ _ (chosen (leb (length xs) q6.1) tt _ q7 e7).0 in
     subst (LetterFound sizes xs) (ok_same d7) (record {
       bytes = all_of (join s5.piece s6.piece) f7;

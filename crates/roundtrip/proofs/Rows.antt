@@ -2,9 +2,8 @@
 use Rattle.std.proofs.Common.{◌≡◌, ℕ, zero, suc, ◌+◌, ◌*◌, ◌/◌, ◌%◌, ◌^◌, ◌<◌, ◌≤◌, Bool, true, false, cond, List, [], ◌∷◌, length, is_some, Some, None, Option, sym, refl, ap, ◌∙◌, ap₂, pow-suc, arith}
 use lib.Bits.{bit_and, and_step, and_zero_r}
 use lib.Count.{ones, ones_in, ones_step}
-use Rattle.std.proofs.lemmas.Bool.{and_parts, and_from, ltb-true, lt-ltb, eq-eqb, ne_eqb, eqb-true, eqb-false}
-use Rattle.letters.specs.declared.sorts.Answer.{Answer}
-use Rattle.letters.specs.declared.sorts.Answer.TheVariants.{Ready, Refuse}
+use Rattle.std.proofs.lemmas.Bool.Decides.{nat_tests}
+use Rattle.std.proofs.lemmas.Bool.{and_parts, and_from, ltb-true, lt-ltb, eqb-true, eqb-false}
 use Rattle.letters.specs.declared.sorts.Seal.{Seal}
 use Rattle.letters.specs.declared.certificates.Vote.{Vote}
 use Rattle.letters.specs.Bytes.{le8, eight_at, map_of, row_bytes, lowest, row_at, after_row, rows_at}
@@ -17,23 +16,16 @@ use Rattle.roundtrip.proofs.Pieces.{Piece, join, first_part, second_part, nothin
 -- ---- one bit and the rest
 
 pub half : (x : Bool) (m : ℕ) → (cond x 1 0 + 2 * m) / 2 ≡ m
-half true m = omega arith
-half false m = omega arith
+half x m = grind (arith)
 
 pub odd : (x : Bool) (m : ℕ) → (cond x 1 0 + 2 * m) % 2 ≡ cond x 1 0
-odd true m = omega arith
-odd false m = omega arith
+odd x m = grind (arith)
 
 lowest_bit : (x : Bool) (m : ℕ) → lowest (cond x 1 0 + 2 * m) ≡ x
-lowest_bit true m = eq-eqb _ 1 (odd true m)
-lowest_bit false m = ne_eqb _ 1 (λ e. omega (arith, odd false m, e))
+lowest_bit x m = grind (arith, nat_tests)
 
 lowest_is : (map : ℕ) → map % 2 ≡ cond (lowest map) 1 0
-lowest_is map = go (lowest map) refl
-  where
-    go : (b : Bool) → lowest map ≡ b → map % 2 ≡ cond b 1 0
-    go true e = eqb-true _ _ e
-    go false e = let h = eqb-false _ _ e in omega (arith, h)
+lowest_is map = grind (arith, nat_tests)
 
 -- one map in another: the lowest bits, and the rest
 halves : (a b : ℕ) → bit_and a b ≡ a → (bit_and (a / 2) (b / 2) ≡ a / 2) × (a % 2 ≤ b % 2)
@@ -43,8 +35,7 @@ doubled : (a b : ℕ) → bit_and (a / 2) (b / 2) ≡ a / 2 → a % 2 ≤ b % 2 
 doubled a b e h = let s = and_step a b in omega arith
 
 bit_below : (b : Bool) (m k : ℕ) → m < 2 ^ k → cond b 1 0 + 2 * m < 2 ^ suc k
-bit_below true m k h = omega (arith, pow-suc 2 k)
-bit_below false m k h = omega (arith, pow-suc 2 k)
+bit_below b m k h = grind (arith, pow-suc 2 k)
 
 pub map_below : {A : Type 0} (test : A → Bool) (rs : List A) → map_of test rs < 2 ^ length rs
 unfolding map_of
@@ -134,11 +125,7 @@ pub votes_back : (vs : List (Option Vote)) → votes_of (map_of ready_vote vs) (
 unfolding map_of votes_of vote_seals
 votes_back [] = refl
 votes_back (None ∷ vs) = simp (half false (map_of ready_vote vs)) (ap (λ r. None ∷ r) (votes_back vs))
-votes_back (Some v ∷ vs) = simp (lowest_bit (is_ready v.answer) (map_of ready_vote vs), half (is_ready v.answer) (map_of ready_vote vs)) (ap₂ (λ a r. Some (record { answer = a; seal = v.seal }) ∷ r) (answered v.answer) (votes_back vs))
-  where
-    answered : (a : Answer) → answer_if (is_ready a) ≡ a
-    answered Ready = refl
-    answered Refuse = refl
+votes_back (Some v ∷ vs) = simp (lowest_bit (is_ready v.answer) (map_of ready_vote vs), half (is_ready v.answer) (map_of ready_vote vs)) (ap₂ (λ a r. Some (record { answer = a; seal = v.seal }) ∷ r) (grind arith) (votes_back vs))
 
 pub seals_map : (vs : List (Option Vote)) → map_of is_some (vote_seals vs) ≡ map_of is_some vs
 unfolding map_of vote_seals
@@ -153,24 +140,12 @@ seals_long (v ∷ vs) = ap suc (seals_long vs)
 
 -- a map in another, bit by bit
 more_within : (x y : Bool) (m n : ℕ) → bit_and m n ≡ m → (x ≡ true → y ≡ true) → bit_and (cond x 1 0 + 2 * m) (cond y 1 0 + 2 * n) ≡ cond x 1 0 + 2 * m
-more_within x y m n e h = doubled _ _ (simp (half x m, half y n) e) (simp (odd x m, odd y n) (bits x y h))
-  where
-    bits : (x y : Bool) → (x ≡ true → y ≡ true) → cond x 1 0 ≤ cond y 1 0
-    bits true true h = omega arith
-    bits true false h = grind (arith, h refl)
-    bits false true h = omega arith
-    bits false false h = omega arith
+more_within x y m n e h = doubled _ _ (simp (half x m, half y n) e) (grind (arith, odd x m, odd y n))
 
 less_within : (x y : Bool) (m n : ℕ) → bit_and (cond x 1 0 + 2 * m) (cond y 1 0 + 2 * n) ≡ cond x 1 0 + 2 * m → (bit_and m n ≡ m) × (x ≡ true → y ≡ true)
 less_within x y m n e =
     let s = halves _ _ e in
-    (simp (half x m, half y n) at s.0, bits x y (simp (odd x m, odd y n) at s.1))
-  where
-    bits : (x y : Bool) → cond x 1 0 ≤ cond y 1 0 → x ≡ true → y ≡ true
-    bits true true h e = refl
-    bits true false h e = absurd (omega arith)
-    bits false true h e = refl
-    bits false false h e = e
+    (simp (half x m, half y n) at s.0, λ g. grind (arith, s.1, odd x m, odd y n, g))
 
 pub ready_within : (vs : List (Option Vote)) → bit_and (map_of ready_vote vs) (map_of is_some vs) ≡ map_of ready_vote vs
 unfolding map_of
@@ -182,7 +157,7 @@ pub voted_within : (es : List (Option Seal)) (vs : List (Option Vote)) → votes
 unfolding map_of votes_within
 voted_within es [] f = refl
 voted_within [] (None ∷ vs) f = let e : map_of is_some vs ≡ 0 = sym (voted_within [] vs f) ∙ and_zero_r _ in and_zero_r _ ∙ omega arith
-voted_within [] (Some v ∷ vs) f = let z : ◌≡◌ {A = ℕ} 0 1 = cc in absurd (omega arith)
+voted_within [] (Some v ∷ vs) f = cc
 voted_within (e ∷ es) (None ∷ vs) f = more_within false (is_some e) _ _ (voted_within es vs f) (λ q. grind (arith, q))
 voted_within (e ∷ es) (Some v ∷ vs) f = let g = and_parts (is_some e) (votes_within es vs) f in more_within true (is_some e) _ _ (voted_within es vs g.1) (λ q. g.0)
 
@@ -203,8 +178,7 @@ bits_of : (n : ℕ) → n ≡ cond (lowest n) 1 0 + 2 * (n / 2)
 bits_of n = omega (arith, lowest_is n)
 
 ready_answer : (b : Bool) → is_ready (answer_if b) ≡ b
-ready_answer true = refl
-ready_answer false = refl
+ready_answer b = grind arith
 
 pub votes_ready : (ready : ℕ) (rs : List (Option Seal)) → bit_and ready (map_of is_some rs) ≡ ready → map_of ready_vote (votes_of ready rs) ≡ ready
 unfolding map_of votes_of

@@ -1,20 +1,16 @@
 -- From the bytes of a statement back to the statement: its numbers, and a left inverse by kind.
-use Rattle.std.proofs.Common.{◌≡◌, ℕ, ◌+◌, ◌-◌, ◌/◌, ◌%◌, ◌^◌, ◌<◌, true, cond, eqb, ltb, leb, List, [], ◌∷◌, get_or, Some, None, fold, Option, sym, refl, ap, ◌∙◌, arith}
+use Rattle.std.proofs.Common.{◌≡◌, ℕ, ◌-◌, ◌/◌, ◌%◌, ◌^◌, ◌<◌, true, cond, eqb, ltb, List, [], ◌∷◌, get_or, Some, None, fold, Option, sym, ap, ◌∙◌, arith}
 use Rattle.std.proofs.lemmas.Nat.{mod_below, pow_pos}
-use Rattle.std.proofs.lemmas.Bool.{leb-true, ltb-true, eqb-true}
+use Rattle.std.proofs.lemmas.Bool.Decides.{nat_tests}
 use Rattle.terms.specs.declared.numbers.Change.{Change}
 use Rattle.terms.specs.declared.numbers.KeyNumber.{KeyNumber}
 use Rattle.terms.specs.declared.numbers.Place.{Place}
-use Rattle.terms.specs.declared.numbers.Seat.{Seat}
 use Rattle.terms.specs.declared.numbers.View.{View}
-use Rattle.terms.specs.declared.parties.Outcome.{Outcome}
-use Rattle.terms.specs.declared.parties.Outcome.TheVariants.{Keep, Number}
 use Rattle.terms.specs.declared.parties.Party.{Party}
 use Rattle.terms.specs.declared.parties.Party.TheVariants.{Controller, Lock, Office}
 use Rattle.terms.specs.declared.sizes.Sizes.{Sizes}
 use Rattle.terms.specs.Numbers.{seat, place, view_of, change, key}
 use Rattle.terms.specs.Parties.{party_number}
-use Rattle.terms.specs.Sizes.{seat_count}
 use Rattle.letters.specs.declared.sorts.Answer.{Answer}
 use Rattle.letters.specs.declared.sorts.Answer.TheVariants.{Ready, Refuse}
 use Rattle.letters.specs.declared.sorts.Digest.{Digest}
@@ -25,14 +21,13 @@ use Rattle.letters.specs.declared.certificates.Basis.{Basis}
 use Rattle.letters.specs.declared.bodies.Brief.{Brief}
 use Rattle.letters.specs.declared.bodies.Letter.{Letter}
 use Rattle.letters.specs.declared.bodies.Body.{Body}
-use Rattle.letters.specs.declared.bodies.Body.TheVariants.{Enrol, Receipt, Order, Summons, Vote, Proposal, Assent, Confirm, Result, Move}
 use Rattle.letters.specs.declared.statements.Statement.{Statement}
 use Rattle.letters.specs.Bodies.{in_brief}
 use Rattle.letters.specs.Bytes.{le4, le8}
 use Rattle.letters.specs.Certificates.{fnv_step, certificate_bytes, certificate_digest}
-use Rattle.letters.specs.Ranges.{letter_fits, body_fits, number_fits, seat_fits, place_fits, leads, is_word}
+use Rattle.letters.specs.Ranges.{letter_fits, body_fits, number_fits}
 use Rattle.letters.specs.Sorts.{kind_number, digest}
-use Rattle.letters.specs.Statements.{statement_of, vote_statement, statement_bytes, place_byte, view_byte, number_word, digest_word, flags_of, outcome_number}
+use Rattle.letters.specs.Statements.{statement_of, vote_statement, statement_bytes, place_byte, view_byte, number_word, digest_word, flags_of}
 use Rattle.roundtrip.specs.Laws.{statement, StatementsTell}
 
 -- a statement in plain numbers
@@ -86,45 +81,17 @@ from f =
     (cond (ltb f.flags 4) (made f K.Move (controller f) None (Some (view_of f.view)) None None None)
     (made f K.Move (controller f) None (Some (view_of f.view)) None (Some (view_of f.basis)) (Some (digest f.digest))))))))))))
 
-add_sub : (n : ℕ) → 32 + n - 32 ≡ n
-add_sub n = omega arith
-
 back : (t : Change) (b : Body Digest Brief) → from (numbers (statement_of t b)) ≡ statement_of t b
-back t (Enrol p) = ap (λ n. statement_of t (Enrol (place n))) (add_sub p.0)
-back t (Receipt s p) = refl
-back t (Order None) = refl
-back t (Order (Some n)) = refl
-back t (Summons s n z) = refl
-back t (Vote p n Ready) = ap (λ m. statement_of t (Vote (place m) n Ready)) (add_sub p.0)
-back t (Vote p n Refuse) = ap (λ m. statement_of t (Vote (place m) n Refuse)) (add_sub p.0)
-back t (Proposal s v Keep d m) = refl
-back t (Proposal s v (Number n) d m) = refl
-back t (Assent s v Keep d) = refl
-back t (Assent s v (Number n) d) = refl
-back t (Confirm s v Keep d) = refl
-back t (Confirm s v (Number n) d) = refl
-back t (Result s Keep) = refl
-back t (Result s (Number n)) = refl
-back t (Move s v None) = refl
-back t (Move s v (Some b)) = move_back t s v b.view b.outcome b.digest
-  where
-    move_back : (t : Change) (s : _) (v u : View) (x : Outcome) (d : Digest) → from (numbers (statement_of t (Move s v (Some (record { view = u; outcome = x; digest = d }))))) ≡ statement_of t (Move s v (Some (record { view = u; outcome = x; digest = d })))
-    move_back t s v u Keep d = refl
-    move_back t s v u (Number n) d = refl
+back t b = grind arith
 
 -- what a party may say: what a letter says, or a vote on an order, which may be a cancel
 pub data Said : Statement → Type 0 where
   in-letter : (t : Change) (b : Body Digest Brief) → Said (statement_of t b)
   in-vote : (t : Change) (p : Place) (n : Option KeyNumber) (a : Answer) → Said (vote_statement t p n a)
 
-vote_back : (t : Change) (p : Place) (n : Option KeyNumber) (a : Answer) → from (numbers (vote_statement t p n a)) ≡ vote_statement t p n a
-vote_back t p (Some n) a = back t (Vote p n a)
-vote_back t p None Ready = ap (λ m. vote_statement t (place m) None Ready) (add_sub p.0)
-vote_back t p None Refuse = ap (λ m. vote_statement t (place m) None Refuse) (add_sub p.0)
-
 said_back : {s : Statement} → Said s → from (numbers s) ≡ s
 said_back (in-letter t b) = back t b
-said_back (in-vote t p n a) = vote_back t p n a
+said_back (in-vote t p n a) = grind arith
 
 -- numbers small enough for their bytes
 pub record Small (s : Statement) : Type 0 where
@@ -140,15 +107,12 @@ eight : (n m : ℕ) → n < 18446744073709551616 → m < 18446744073709551616 �
     → n / 4294967296 % 256 ≡ m / 4294967296 % 256 → n / 1099511627776 % 256 ≡ m / 1099511627776 % 256 → n / 281474976710656 % 256 ≡ m / 281474976710656 % 256 → n / 72057594037927936 % 256 ≡ m / 72057594037927936 % 256 → n ≡ m
 eight n m a b p q r s t u v w = omega arith
 
-one : (n m : ℕ) → n < 256 → m < 256 → n % 256 ≡ m % 256 → n ≡ m
-one n m a b e = omega arith
-
 same_numbers : (s u : Statement) → Small s → Small u → statement_bytes s ≡ statement_bytes u → numbers s ≡ numbers u
 unfolding statement_bytes le4 le8
 same_numbers s u a b e =
     let at : (i : ℕ) → get_or (statement_bytes s) i 0 ≡ get_or (statement_bytes u) i 0 = λ i. ap (λ (xs : List ℕ). get_or xs i 0) e in
-    let p1 = one _ _ a.change b.change (at 1) in
-    let p2 = one _ _ a.sender b.sender (at 2) in
+    let p1 : s.change.0 ≡ u.change.0 = omega (arith, at 1, a.change, b.change) in
+    let p2 : party_number s.sender ≡ party_number u.sender = omega (arith, at 2, a.sender, b.sender) in
     let p3 = four _ _ a.number b.number (at 6) (at 7) (at 8) (at 9) in
     let p4 = eight _ _ a.digest b.digest (at 16) (at 17) (at 18) (at 19) (at 20) (at 21) (at 22) (at 23) in
     λ i. record { kind = at 0 i; change = p1 i; sender = p2 i; place = at 3 i; view = at 4 i; flags = at 5 i; number = p3 i; basis = at 10 i; digest = p4 i }
@@ -162,65 +126,19 @@ pub digest_below : (c : Certificate) → (certificate_digest c).0 < 2 ^ 64
 digest_below c = fnv_below 14695981039346656037 (certificate_bytes c) (omega arith)
 
 pub number_below : (n : Option KeyNumber) → number_fits n ≡ true → number_word n < 4294967296
-number_below None e = omega arith
-number_below (Some n) e = let h = leb-true _ _ e in omega arith
-
-seat_below : (sizes : Sizes) (s : Seat) → seat_fits sizes s ≡ true → s.0 < 256
-seat_below sizes s e = let h = ltb-true _ _ e in omega arith
-
-place_below : (sizes : Sizes) (p : Place) → place_fits sizes p ≡ true → 32 + p.0 < 256
-place_below sizes p e = let h = ltb-true _ _ e in omega arith
-
-leader_below : (sizes : Sizes) (t : Change) (v : View) (s : Seat) → leads sizes t v s ≡ true → s.0 < 256
-leader_below sizes t v s e = let h = eqb-true _ _ e in let k = mod_below v.0 (seat_count sizes) (omega arith) in omega arith
+number_below n e = grind (arith, nat_tests)
 
 -- the numbers of a letter's statement are small, kind by kind
 pub small : (sizes : Sizes) (t : Change) (b : Body Certificate Basis) → t.0 < 256 → body_fits sizes t b ≡ true → Small (statement_of t (in_brief b))
-small sizes t (Enrol p) h f = record { change = h; sender = place_below sizes p f; number = omega arith; digest = omega arith }
-small sizes t (Receipt s p) h f =
-    let q : seat_fits sizes s ≡ true = grind arith in
-    record { change = h; sender = seat_below sizes s q; number = omega arith; digest = omega arith }
-small sizes t (Order n) h f = record { change = h; sender = omega arith; number = number_below n f; digest = omega arith }
-small sizes t (Summons s n z) h f =
-    let q : seat_fits sizes s ≡ true = grind arith in
-    let k : number_fits (Some n) ≡ true = grind arith in
-    record { change = h; sender = seat_below sizes s q; number = number_below (Some n) k; digest = omega arith }
-small sizes t (Vote p n a) h f =
-    let q : place_fits sizes p ≡ true = grind arith in
-    let k : number_fits (Some n) ≡ true = grind arith in
-    record { change = h; sender = place_below sizes p q; number = number_below (Some n) k; digest = omega arith }
-small sizes t (Proposal s v x c m) h f =
-    let q : leads sizes t v s ≡ true = grind arith in
-    let k : number_fits (outcome_number x) ≡ true = grind arith in
-    record { change = h; sender = leader_below sizes t v s q; number = number_below (outcome_number x) k; digest = digest_below c }
-small sizes t (Assent s v x d) h f =
-    let q : seat_fits sizes s ≡ true = grind arith in
-    let k : number_fits (outcome_number x) ≡ true = grind arith in
-    let w : is_word d.0 ≡ true = grind arith in
-    record { change = h; sender = seat_below sizes s q; number = number_below (outcome_number x) k; digest = ltb-true _ _ w }
-small sizes t (Confirm s v x d) h f =
-    let q : seat_fits sizes s ≡ true = grind arith in
-    let k : number_fits (outcome_number x) ≡ true = grind arith in
-    let w : is_word d.0 ≡ true = grind arith in
-    record { change = h; sender = seat_below sizes s q; number = number_below (outcome_number x) k; digest = ltb-true _ _ w }
-small sizes t (Result s x) h f =
-    let q : seat_fits sizes s ≡ true = grind arith in
-    let k : number_fits (outcome_number x) ≡ true = grind arith in
-    record { change = h; sender = seat_below sizes s q; number = number_below (outcome_number x) k; digest = omega arith }
-small sizes t (Move s v None) h f =
-    let q : seat_fits sizes s ≡ true = grind arith in
-    record { change = h; sender = seat_below sizes s q; number = omega arith; digest = omega arith }
-small sizes t (Move s v (Some b)) h f =
-    let q : seat_fits sizes s ≡ true = grind arith in
-    let k : number_fits (outcome_number b.outcome) ≡ true = grind arith in
-    record { change = h; sender = seat_below sizes s q; number = number_below (outcome_number b.outcome) k; digest = digest_below b.certificate }
+small sizes t b h f = record {
+  change = grind arith;
+  sender = grind (arith, nat_tests, mod_below);
+  number = grind (arith, nat_tests);
+  digest = grind (arith, nat_tests, digest_below);
+}
 
 small_letter : (sizes : Sizes) (l : Letter Certificate Basis) → letter_fits sizes l ≡ true → Small (statement l)
-small_letter sizes l f =
-    let c : leb l.change.0 255 ≡ true = grind arith in
-    let b : body_fits sizes l.change l.body ≡ true = grind arith in
-    let d = leb-true l.change.0 255 c in
-    small sizes l.change l.body (omega arith) b
+small_letter sizes l f = small sizes l.change l.body (grind (arith, nat_tests)) (grind arith)
 
 -- statements with small numbers and the same bytes are the same
 pub same_statements : {s u : Statement} → Said s → Said u → Small s → Small u → statement_bytes s ≡ statement_bytes u → s ≡ u

@@ -1,12 +1,7 @@
-use Rattle.std.proofs.Common.{rules}
-use Rattle.keychange.proofs.Turns.{staged_none, staged_more, took_none, took_more}
+use Rattle.std.proofs.Common.{rules, add-one}
+use Rattle.keychange.specs.Everywhere.{staged_to, all_took}
 use Rattle.keychange.proofs.change.stage_everywhere.Goals as goal
 
-pub loop-n-init : goal.loop-n-init
-loop-n-init g c = search (rules, staged_none, took_none)
-
 pub loop-n-preserved : goal.loop-n-preserved
-loop-n-preserved g c = search (rules, staged_more, took_more)
-
-pub returns : goal.returns
-returns g c = search rules
+unfolding staged_to all_took
+loop-n-preserved g c = search (rules, add-one)
