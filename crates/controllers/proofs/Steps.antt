@@ -5,7 +5,7 @@ use Rattle.terms.specs.declared.numbers.View.{View}
 use Rattle.letters.specs.declared.sorts.Seal.{Seal}
 use Rattle.controllers.specs.declared.controller.MoveRecord.{MoveRecord}
 use Rattle.controllers.specs.Choice.{stands_in, names, offer, better, best, all_recorded, covers, add_seat, picked}
-use Rattle.controllers.proofs.Below.{all_below, fold_below}
+use Rattle.letters.proofs.Below.{all_below, fold_below}
 
 best_none : (records : List (Option MoveRecord)) (movers : ℕ) (v : View) → best records movers v 0 ≡ None
 unfolding best

@@ -6,6 +6,7 @@ ghost use Rattle.std.proofs.Common.{rules};
 use crate::controller::{MoveRecord, Picked};
 use ballots::{Ballot, entry};
 use letters::certificates::Basis;
+use letters::maps::stands;
 use letters::sorts::{Seal, SeatSet};
 use terms::numbers::View;
 
@@ -21,14 +22,6 @@ impl Ballot for MoveRecord {
     fn agrees(&self, other: &MoveRecord) -> bool {
         self.view == other.view
     }
-}
-
-// By index, as an entry of a table is: for `SeatSet::holds` an index would first have to become a seat.
-fn stands(map: u16, seat: u8) -> bool
-    requires { seat < 16 }
-    ensures { result ≡ Choice.stands_in map seat }
-{
-    (map >> seat) % 2 == 1
 }
 
 // A record names a view.

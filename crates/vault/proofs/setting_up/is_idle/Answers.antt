@@ -3,7 +3,7 @@ use Rattle.std.proofs.lemmas.Iterator.{YieldsList-from_range}
 use Rattle.std.proofs.lemmas.Iterator.Search.{all_from_yields_List}
 use Rattle.terms.specs.Numbers.{place}
 use Rattle.boards.specs.Boards.{has_staged}
-use Rattle.controllers.proofs.Below.{all_below}
+use Rattle.letters.proofs.Below.{all_below}
 use Rattle.vault.specs.SetUps.{unstaged_below}
 use Rattle.vault.proofs.Renews.{unstaged_none, unstaged_more}
 use Rattle.vault.proofs.setting_up.is_idle.Goals as goal
