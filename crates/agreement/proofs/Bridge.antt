@@ -168,19 +168,16 @@ seat_below j s e = elim (cases_Bool (ltb j 16)) [
 ]
 
 enrol_proper : (t : Change) → t.0 < 256 → (o : Option Place) → ((p : Place) → o ≡ Some p → p.0 < 8) → (z : Option Seal) (b : Borne) → enrol_borne t o z ≡ Some b → Proper t b
-enrol_proper t h None below z b e = absurd (none_some refl e)
-enrol_proper t h (Some p) below None b e = absurd (none_some refl e)
 enrol_proper t h (Some p) below (Some z) b e = subst (Proper t) (same_Some _ _ e) (record { change = refl; said = T.in-letter t (B.Enrol p); small = record { change = h; sender = omega (arith, below p refl); number = omega arith; digest = omega arith } })
+enrol_proper t h o below z b e = absurd (none_some refl e)
 
 vote_proper : (t : Change) → t.0 < 256 → (n : Option KeyNumber) → number_fits n ≡ true → (o : Option Place) → ((p : Place) → o ≡ Some p → p.0 < 8) → (v : Option Vote) (b : Borne) → vote_borne t n o v ≡ Some b → Proper t b
-vote_proper t h n fit None below v b e = absurd (none_some refl e)
-vote_proper t h n fit (Some p) below None b e = absurd (none_some refl e)
 vote_proper t h n fit (Some p) below (Some v) b e = subst (Proper t) (same_Some _ _ e) (record { change = refl; said = T.in-vote t p n v.answer; small = record { change = h; sender = omega (arith, below p refl); number = number_below n fit; digest = omega arith } })
+vote_proper t h n fit o below v b e = absurd (none_some refl e)
 
 assent_proper : (t : Change) → t.0 < 256 → (u : View) (x : Outcome) (c : Certificate) → number_fits (outcome_number x) ≡ true → (o : Option Seat) → ((s : Seat) → o ≡ Some s → s.0 < 16) → (z : Option Seal) (b : Borne) → assent_borne t u x (certificate_digest c) o z ≡ Some b → Proper t b
-assent_proper t h u x c fit None below z b e = absurd (none_some refl e)
-assent_proper t h u x c fit (Some s) below None b e = absurd (none_some refl e)
 assent_proper t h u x c fit (Some s) below (Some z) b e = subst (Proper t) (same_Some _ _ e) (record { change = refl; said = T.in-letter t (B.Assent s u x (certificate_digest c)); small = record { change = h; sender = omega (arith, below s refl); number = number_below (outcome_number x) fit; digest = digest_below c } })
+assent_proper t h u x c fit o below z b e = absurd (none_some refl e)
 
 order_proper : (sizes : Sizes) (t : Change) → t.0 < 256 → (n : Option KeyNumber) (z : Seal) → number_fits n ≡ true → Proper t (bears P.Office (order_statement t n) z)
 order_proper sizes t h n z fit = record { change = refl; said = T.in-letter t (B.Order n); small = small sizes t (B.Order n) h fit }

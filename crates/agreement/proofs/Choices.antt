@@ -1,8 +1,9 @@
 -- The recursions of the rules: what they say of each seat and place.
-use Rattle.std.proofs.Common.{◌≡◌, ℕ, zero, suc, ◌+◌, ◌/◌, ◌%◌, ◌^◌, ◌<◌, ◌≤◌, Bool, true, false, cond, not, ◌&&◌, ◌||◌, eqb, ltb, ◌⊎◌, List, length, get_or, is_some, Some, None, Option, sym, refl, ap, ◌∙◌, inl, inr, arith}
+use Rattle.std.proofs.Common.{◌≡◌, ℕ, zero, suc, ◌+◌, ◌-◌, ◌*◌, ◌/◌, ◌%◌, ◌^◌, ◌<◌, ◌≤◌, Bool, true, false, cond, not, ◌&&◌, ◌||◌, eqb, ltb, ◌⊎◌, List, length, get_or, is_some, Some, None, Option, sym, refl, ap, ◌∙◌, inl, inr, arith}
 use lib.Count.{ones, ones_step, ones-le}
-use Rattle.std.proofs.lemmas.Nat.{shr-shr}
-use Rattle.std.proofs.lemmas.Bool.{cases_Bool, and_parts, cases_eq, both_ways, eqb-true, ne_eqb, eq-eqb, cond_both, ltb-true, ltb-false, or_cases, not-true, true≢false}
+use Rattle.std.proofs.lemmas.Bool.Decides.{nat_tests}
+use Rattle.std.proofs.lemmas.Nat.Bits.{bit_at-suc, bit_at-zero, bit_at_above, bit_at_cat_low, bit_at_cat_high}
+use Rattle.std.proofs.lemmas.Bool.{cases_Bool, and_parts, cases_eq, cases_lt, both_ways, eqb-true, ne_eqb, eq-eqb, cond_both, ltb-true, ltb-false, or_cases, not-true, true≢false}
 use Rattle.terms.specs.declared.numbers.KeyNumber.{KeyNumber}
 use Rattle.terms.specs.declared.numbers.View.{View}
 use Rattle.terms.specs.declared.parties.Outcome.TheVariants.{Keep, Number}
@@ -161,10 +162,10 @@ certificate_vote c n p e on =
 -- ---- bits of a map
 
 stands_suc : (m k : ℕ) → stands_in m (suc k) ≡ stands_in (m / 2) k
-stands_suc m k = ap (λ (x : ℕ). eqb (x % 2) 1) (ap (λ (j : ℕ). m / 2 ^ j) (let e : suc k ≡ 1 + k = omega arith in e) ∙ sym (shr-shr m 1 k))
+stands_suc m k = ap (λ b. eqb b 1) (bit_at-suc m k)
 
 bit_of : (m : ℕ) → cond (stands_in m 0) 1 0 ≡ m % 2
-bit_of m = cond_both (eqb (m / 1 % 2) 1) 1 0 (λ (x : ℕ). x ≡ m % 2) (λ e. let q = eqb-true _ _ e in omega arith) (λ e. elim (cases_eq (m / 1 % 2) 1) [ inl q ↦ absurd (both_ways _ e (eq-eqb _ _ q)) | inr q ↦ omega arith ])
+bit_of m = grind (arith, nat_tests)
 
 -- the bits of a map are as many as the seats that stand in it
 pub ones_count : (n m : ℕ) → m < 2 ^ n → ones m ≡ count (stands_in m) n
@@ -175,26 +176,17 @@ ones_count (suc n) m h =
     omega (arith, ones_step m, ones_count n (m / 2) b, count_front (stands_in m) n, bit_of m)
 
 pub zero_stands : (k : ℕ) → stands_in 0 k ≡ false
-zero_stands zero = refl
-zero_stands (suc k) = stands_suc 0 k ∙ zero_stands k
-
-same_bit : (a b : ℕ) → a % 2 ≡ b % 2 → stands_in a 0 ≡ stands_in b 0
-same_bit a b e = ap (λ (x : ℕ). eqb x 1) (let q : a / 1 % 2 ≡ b / 1 % 2 = omega arith in q)
+zero_stands k = ap (λ b. eqb b 1) (bit_at-zero k)
 
 -- one more bit, above those of the map
 bit_added : (n m k : ℕ) → m < 2 ^ n → stands_in (m + 2 ^ n) k ≡ (eqb k n || stands_in m k)
-bit_added zero m zero h = let e : m ≡ 0 = omega arith in rw e refl
-bit_added zero m (suc k) h =
-    let e : m ≡ 0 = omega arith in
-    let d : eqb (suc k) 0 ≡ false = ne_eqb (suc k) 0 (λ z. omega arith) in
-    rw (e, d) (stands_suc 1 k ∙ zero_stands k ∙ sym (zero_stands (suc k)))
-bit_added (suc n) m zero h =
-    let d : eqb 0 (suc n) ≡ false = ne_eqb 0 (suc n) (λ z. omega arith) in
-    rw d (same_bit (m + 2 ^ suc n) m (omega arith))
-bit_added (suc n) m (suc k) h =
-    let a : (m + 2 ^ suc n) / 2 ≡ m / 2 + 2 ^ n = omega arith in
-    let b : eqb (suc k) (suc n) ≡ eqb k n = elim (cases_eq k n) [ inl q ↦ eq-eqb (suc k) (suc n) (ap suc q) ∙ sym (eq-eqb k n q) | inr q ↦ ne_eqb (suc k) (suc n) (λ z. q (omega arith)) ∙ sym (ne_eqb k n q) ] in
-    stands_suc (m + 2 ^ suc n) k ∙ ap (λ (x : ℕ). stands_in x k) a ∙ bit_added n (m / 2) k (omega arith) ∙ ap (λ (x : Bool). x || stands_in (m / 2) k) (sym b) ∙ ap (λ (x : Bool). eqb (suc k) (suc n) || x) (sym (stands_suc m k))
+bit_added n m k h = ap (λ x. stands_in x k) (let e : m + 2 ^ n ≡ 1 * 2 ^ n + m = omega arith in e) ∙ elim (cases_lt k n) [
+  | inl l ↦ ap (λ b. eqb b 1) (bit_at_cat_low 1 n m k l) ∙ ap (λ b. b || stands_in m k) (sym (ne_eqb k n (λ e. omega arith)))
+  | inr l ↦ ap (λ b. eqb b 1) (bit_at_cat_high 1 n m k h l) ∙ elim (cases_eq k n) [
+    | inl e ↦ ap (stands_in 1) (let z : k - n ≡ 0 = omega arith in z) ∙ ap (λ b. b || stands_in m k) (sym (eq-eqb k n e))
+    | inr e ↦ ap (λ b. eqb b 1) (bit_at_above 1 1 (k - n) (omega arith) (omega arith) ∙ sym (bit_at_above m n k h l)) ∙ ap (λ b. b || stands_in m k) (sym (ne_eqb k n e))
+  ]
+]
 
 -- ---- the movers that a leader names
 

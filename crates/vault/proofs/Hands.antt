@@ -1,14 +1,12 @@
 -- The turn of a party that bytes are handed to, step by step.
-use Rattle.std.proofs.Common.{◌≡◌, ℕ, ◌<◌, true, false, cond, ltb, List, length, get_or, set, Ok, Err, Result, sym, refl, ap, ◌∙◌, subst, arith}
+use Rattle.std.proofs.Common.{◌≡◌, ℕ, ◌<◌, true, false, cond, ltb, List, length, get_or, set, Ok, Err, Result, sym, refl, ap, ◌∙◌, subst}
 use Rattle.std.proofs.lemmas.Bool.{cond-true, cond-false, false_from_ne_true, lt-ltb, ltb-true}
 use Rattle.terms.specs.declared.refusals.Refusal.{Refusal}
 use Rattle.terms.specs.Parties.{party_number}
 use Rattle.terms.specs.Refusals.{no_room}
-use Rattle.letters.specs.declared.bodies.Body.{Body}
-use Rattle.letters.specs.declared.bodies.Body.TheVariants as B
 use Rattle.letters.specs.declared.bodies.Letter.{Letter}
 use Rattle.reading.specs.Parts.{Span, Spans}
-use Rattle.kept.specs.Kept.{kept, kept_body}
+use Rattle.kept.specs.Kept.{kept}
 use Rattle.boards.specs.Boards.{Meaning}
 use Rattle.letters.specs.Senders.{sender_of}
 use Rattle.seals.specs.Opening.{opening, open_answer}

@@ -1,5 +1,5 @@
 -- Records made new one after the other, and places found idle one after the other.
-use Rattle.std.proofs.Common.{◌≡◌, ℕ, zero, suc, ◌+◌, Bool, true, false, cond, not, ◌&&◌, List, length, set, Ok, Err, refl, ap, ◌∙◌, add-one, arith, length-set}
+use Rattle.std.proofs.Common.{◌≡◌, ℕ, zero, suc, ◌+◌, Bool, true, false, cond, not, ◌&&◌, List, length, set, Ok, Err, refl, ap, ◌∙◌, add-one, length-set}
 use Rattle.terms.specs.declared.refusals.Refusal.{Refusal}
 use Rattle.terms.specs.Numbers.{place}
 use Rattle.terms.specs.Refusals.{set_up}

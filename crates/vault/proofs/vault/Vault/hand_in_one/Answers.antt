@@ -1,6 +1,5 @@
-use Rattle.std.proofs.Common.{◌≡◌, Some, None, refl, rules}
+use Rattle.std.proofs.Common.{Some, None, refl, rules}
 use Rattle.terms.specs.declared.parties.Party.TheVariants as P
-use Rattle.terms.specs.Parties.{party_in}
 use Rattle.agreement.specs.Calls.{no_such_unit}
 use Rattle.vault.proofs.Steps.{halted_turn, handed_step}
 use Rattle.vault.proofs.vault.Vault.hand_in_one.Goals as goal
