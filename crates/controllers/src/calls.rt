@@ -1,5 +1,5 @@
 // What the owner of a controller may do with it.
-ghost use Rattle.std.specs.Prelude.{◌≡◌, true};
+ghost use Rattle.std.specs.Prelude.{◌≡◌};
 ghost use Rattle.terms.specs.Parties.{party_number};
 ghost use Rattle.reading.specs.Parts.{shown};
 ghost use Rattle.kept.specs.Kept.{kept};
@@ -15,7 +15,6 @@ use crate::controller::{Controller, Draft, Proposal};
 use crate::views::empty_round;
 use kept::keep;
 use letters::bodies::{Body, Letter};
-use letters::sorts::Seal;
 use posting::few::{AtMostTwo, Posted};
 use posting::finish::{answer, finish};
 use posting::replies::{CallResult, Reply};

@@ -1,5 +1,5 @@
 // Counting and choosing among the records of moves.
-ghost use Rattle.std.specs.Prelude.{◌≡◌, ℕ, ◌+◌, ◌*◌, ◌^◌, ◌<◌, ◌≤◌, length};
+ghost use Rattle.std.specs.Prelude.{◌≡◌, ◌+◌, ◌^◌, ◌<◌, ◌≤◌};
 ghost use Rattle.controllers.specs.Choice as Choice;
 ghost use Rattle.std.proofs.Common.{rules};
 

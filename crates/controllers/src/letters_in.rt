@@ -1,10 +1,9 @@
 // A letter handed to a controller.
-ghost use Rattle.std.specs.Prelude.{◌≡◌, true};
+ghost use Rattle.std.specs.Prelude.{◌≡◌};
 ghost use Rattle.terms.specs.Parties.{party_number};
 ghost use Rattle.letters.specs.Senders.{sender_of};
 ghost use Rattle.posting.specs.Calls as Calls;
 ghost use Rattle.posting.specs.Posting.{seals_in};
-ghost use Rattle.posting.specs.Replies as Replies;
 ghost use Rattle.controllers.specs.Letters as Letters;
 ghost use Rattle.controllers.specs.Rules as Rules;
 

@@ -1,21 +1,16 @@
 // The rules of a controller: guards in order, then what it becomes and what it sends.
-ghost use Rattle.std.specs.Prelude.{◌≡◌, ℕ, ◌+◌, ◌*◌, ◌<◌, ◌≤◌, length};
+ghost use Rattle.std.specs.Prelude.{◌≡◌, ◌<◌};
 ghost use Rattle.controllers.specs.Rules as Rules;
-ghost use Rattle.posting.specs.Replies as Replies;
 
-use crate::controller::{Controller, MoveRecord, Proposal, Round};
-use crate::counts::{all_recorded, choose, covers};
-use ballots::{Pair, entry, put, tally};
+use crate::controller::Controller;
+use ballots::{entry, put};
 use letters::bodies::Body;
 use letters::certificates::{Order, Vote};
-use letters::sorts::{Answer, Digest, Seal, SeatSet};
+use letters::sorts::{Answer, Seal};
 use posting::few::AtMostTwo;
 use posting::replies::{Bodies, Reply};
-use terms::numbers::{Change, KeyNumber, Place, Seat, View};
-use terms::parties::Outcome;
+use terms::numbers::{KeyNumber, Place, Seat};
 use terms::refusals::RuleCause;
-use terms::sizes::Sizes;
-use writing::certificates::certificate_digest;
 
 fn may_order(held: Option<Order>, number: Option<KeyNumber>) -> Result<(), RuleCause>
     ensures { result ≡ Rules.may_order held number }

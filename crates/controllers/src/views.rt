@@ -1,5 +1,5 @@
 // The rules of a controller on proposals, assents, confirms and views.
-ghost use Rattle.std.specs.Prelude.{◌≡◌, ℕ, ◌+◌, ◌*◌, ◌<◌, ◌≤◌, length, Ok};
+ghost use Rattle.std.specs.Prelude.{◌≡◌, ◌+◌, ◌*◌, ◌<◌, Ok};
 ghost use Rattle.controllers.specs.Rules as Rules;
 ghost use Rattle.posting.specs.Replies as Replies;
 
@@ -8,11 +8,10 @@ use crate::counts::{all_recorded, choose, covers, pick};
 use ballots::{Ballot, Pair, entry, put, tally};
 use letters::bodies::{Body, WholeBody};
 use letters::certificates::{Basis, Certificate};
-use letters::sorts::{Digest, Seal, SeatSet};
+use letters::sorts::{Seal, SeatSet};
 use posting::few::AtMostTwo;
 use posting::replies::{Bodies, Reply};
 use terms::numbers::{Change, Seat, View};
-use terms::parties::Outcome;
 use terms::refusals::RuleCause;
 use terms::sizes::Sizes;
 use writing::certificates::certificate_digest;

@@ -1,7 +1,5 @@
 // A letter handed to a lock.
 ghost use Rattle.std.specs.Prelude.{◌≡◌, ◌↔◌, false, Err};
-ghost use Rattle.letters.specs.Bodies.{retold};
-ghost use Rattle.reading.specs.Parts.{span, spans, shown};
 ghost use Rattle.terms.specs.Parties.{party_number};
 ghost use Rattle.terms.specs.Refusals.{no_room};
 ghost use Rattle.letters.specs.Senders.{sender_of};

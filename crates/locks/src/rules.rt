@@ -1,5 +1,5 @@
 // The rules of a lock: guards in order, then what it becomes and what it sends.
-ghost use Rattle.std.specs.Prelude.{◌≡◌, ℕ, ◌+◌, ◌*◌, ◌<◌, ◌≤◌, length};
+ghost use Rattle.std.specs.Prelude.{◌≡◌, ◌+◌, ◌<◌};
 ghost use Rattle.locks.specs.Rules as Rules;
 
 use crate::lock::{Lock, Standing};

@@ -1,5 +1,5 @@
 // The end of a call of a unit.
-ghost use Rattle.std.specs.Prelude.{◌≡◌, Bool, true, is_ok};
+ghost use Rattle.std.specs.Prelude.{◌≡◌, true, is_ok};
 ghost use Rattle.posting.specs.Calls as Calls;
 ghost use Rattle.posting.specs.Posting.{seals_in, are_words};
 

@@ -1,5 +1,5 @@
 // Seals up to two letters and writes them.
-ghost use Rattle.std.specs.Prelude.{◌≡◌, ℕ, ◌+◌, ◌<◌, ◌≤◌, Bool, true, ◌++◌, length, is_ok};
+ghost use Rattle.std.specs.Prelude.{◌≡◌, ◌<◌, ◌≤◌, true, length, is_ok};
 ghost use Rattle.letters.specs.Bodies.{letter};
 ghost use Rattle.letters.specs.Bytes.{written};
 ghost use Rattle.letters.specs.Layout.{layout};
