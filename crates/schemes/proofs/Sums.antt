@@ -1,10 +1,6 @@
--- The weighted sum of no bytes, and one byte more.
-use Rattle.std.proofs.Common.{◌≡◌, ℕ, ◌+◌, ◌*◌, ◌%◌, ◌^◌, List, get_or, refl, ap, add-one, arith}
+-- The weighted sum of one byte more.
+use Rattle.std.proofs.Common.{◌≡◌, ℕ, ◌+◌, ◌*◌, ◌%◌, ◌^◌, List, get_or, ap, add-one, arith}
 use Rattle.schemes.specs.Sheet.{weighted}
-
-pub weighted_none : (words bytes : List ℕ) → weighted words bytes 0 ≡ get_or words 0 0
-unfolding weighted
-weighted_none words bytes = refl
 
 -- adding modulo 2 ^ 64 at every step comes to the same
 pub weighted_more : (words bytes : List ℕ) (n s : ℕ) → s ≡ weighted words bytes n % 2 ^ 64 → (s + get_or words (n + 1) 0 * (get_or bytes n 0 + 1) % 2 ^ 64) % 2 ^ 64 ≡ weighted words bytes (n + 1) % 2 ^ 64

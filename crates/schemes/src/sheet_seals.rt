@@ -9,6 +9,7 @@ use letters::sorts::Seal;
 
 // Word 0, and word p + 1 times (byte p + 1) for each of 24 bytes, modulo 2^64; a word that
 // is not there counts as 0.
+#[tactic(auto, using(crate::proofs::Sums::weighted_more), unfolding(crate::specs::Sheet::weighted))]
 pub fn sheet_sum(words: &[u64], bytes: &[u8]) -> u64
     ensures { result ≡ sheet_sum words.now bytes.now }
 {
@@ -31,6 +32,7 @@ impl Row for [u64; 25] {
 
     ghost by_own_row = { λ _ _ _. refl };
 
+    #[tactic(auto, unfolding(crate::specs::Sheet::weighted))]
     fn blank() -> [u64; 25] {
         [0; 25]
     }
