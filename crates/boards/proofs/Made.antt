@@ -1,5 +1,5 @@
 -- The steps of a loop that makes the doors of a board.
-use Rattle.std.proofs.Common.{◌≡◌, ℕ, ◌+◌, ◌<◌, ◌≤◌, Bool, true, false, ◌&&◌, List, [], ◌∷◌, ◌++◌, map, length, get_or, take, drop, Some, None, sym, refl, ap, ◌∙◌}
+use Rattle.std.proofs.Common.{◌≡◌, ℕ, ◌+◌, ◌<◌, ◌≤◌, Bool, true, false, ◌&&◌, List, [], ◌∷◌, ◌++◌, map, length, get_or, take, drop, Some, None, sym, ap, ◌∙◌, arith}
 use Rattle.std.proofs.lemmas.List.{at_drop_more, at_drop_all, map_more, take_all}
 use Rattle.terms.specs.Numbers.{within}
 use Rattle.boards.specs.declared.door.Door.{Door}
@@ -9,19 +9,6 @@ use Rattle.boards.specs.Boards.{each}
 pub record Filled {A : Type 0} (fit : A → Bool) (make : A → Door) (xs : List A) (i : ℕ) (doors : List Door) : Type 0 where
   pub left : each fit (drop i xs) ≡ each fit xs
   pub so_far : doors ≡ map make (take i xs)
-
--- what is given back if a thing is fit, and only then
-within_fit : {A : Type 0} (ok : Bool) (x y : A) → Some x ≡ within ok y → ok ≡ true
-within_fit true x y e = refl
-within_fit false x y e = cc
-
-within_same : {A : Type 0} (ok : Bool) (x y : A) → Some x ≡ within ok y → x ≡ y
-within_same true x y e = cc
-within_same false x y e = cc
-
-within_unfit : {A : Type 0} (ok : Bool) (y : A) → None ≡ within ok y → ok ≡ false
-within_unfit true y e = cc
-within_unfit false y e = refl
 
 each_more :
     {A : Type 0} (fit : A → Bool) (xs : List A) (i : ℕ) (x : A) → i < length xs → x ≡ get_or xs i x →
@@ -35,8 +22,8 @@ pub filled_more :
     Filled fit make xs i doors → i < length xs → x ≡ get_or xs i x → Some door ≡ within (fit x) (make x) → more ≡ doors ++ door ∷ [] →
     Filled fit make xs (i + 1) more
 filled_more fit make xs i x doors door more f h is given e =
-    let ok = within_fit (fit x) door (make x) given in
-    let same = within_same (fit x) door (make x) given in
+    let ok : fit x ≡ true = grind (arith, given) in
+    let same : door ≡ make x = grind (arith, given) in
     record {
       left = sym (each_more fit xs i x h is ∙ ap (λ b. b && each fit (drop (i + 1) xs)) ok) ∙ f.left;
       so_far = e ∙ ap (λ d. doors ++ d ∷ []) (same ∙ ap make is) ∙ ap (λ ds. ds ++ make (get_or xs i x) ∷ []) f.so_far ∙ sym (map_more make xs i x h);
@@ -46,8 +33,7 @@ filled_more fit make xs i x doors door more f h is given e =
 pub filled_unfit :
     {A : Type 0} (fit : A → Bool) (make : A → Door) (xs : List A) (i : ℕ) (x : A) (doors : List Door) →
     Filled fit make xs i doors → i < length xs → x ≡ get_or xs i x → None ≡ within (fit x) (make x) → each fit xs ≡ false
-filled_unfit fit make xs i x doors f h is given =
-    sym f.left ∙ each_more fit xs i x h is ∙ ap (λ b. b && each fit (drop (i + 1) xs)) (within_unfit (fit x) (make x) given)
+filled_unfit fit make xs i x doors f h is given = let more = each_more fit xs i x h is in grind (arith, given, f.left)
 
 pub filled_fit :
     {A : Type 0} (fit : A → Bool) (make : A → Door) (xs : List A) (i : ℕ) (doors : List Door) →

@@ -1,5 +1,5 @@
 -- Turns of a wheel, as the code works them out, and that the turn to a place leads there.
-use Rattle.std.proofs.Common.{◌≡◌, ℕ, ◌+◌, ◌-◌, ◌%◌, ◌≤◌, ℤ, pos, negsuc, ◌+ℤ◌, ◌-ℤ◌, nat_abs, ◌≤ℤ◌, refl, ap, ◌∙◌, arith, w8, w16, to_z, of_z}
+use Rattle.std.proofs.Common.{◌≡◌, ℕ, ◌+◌, ◌-◌, ◌%◌, ◌≤◌, ℤ, pos, negsuc, ◌+ℤ◌, ◌-ℤ◌, nat_abs, ◌≤ℤ◌, ap, ◌∙◌, arith, w8, w16, to_z, of_z}
 use Rattle.std.proofs.lemmas.Int.{ints}
 use Rattle.boards.specs.Wheels.{turn_of, turned_by}
 
@@ -28,12 +28,3 @@ turn_low a x = omega (arith, ints)
 pub turn_high : (a x : ℕ) → turn_of a x ≤ℤ pos 49
 unfolding turn_of
 turn_high a x = omega (arith, ints)
-
--- as far forth as a turn goes, and as far back
-turns_forth : turn_of 10 59 ≡ pos 49
-unfolding turn_of
-turns_forth = refl
-
-turns_back : turn_of 10 60 ≡ negsuc 49
-unfolding turn_of
-turns_back = refl

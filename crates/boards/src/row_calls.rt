@@ -14,6 +14,7 @@ use terms::refusals::{Refusal, set_up};
 
 impl<D: DoorKind> Row<D> {
     // A board with the numbers of these entries in force and nothing staged.
+    #[tactic(auto, using(crate::proofs::Made::filled_unfit, crate::proofs::Made::filled_fit, crate::proofs::Made::filled_all))]
     pub(crate) fn fitted(entries: &[D::Entry]) -> Result<Row<D>, Refusal>
         ensures { meant (row_meaning D.all_shown D.rule) result ≡ made D.fits D.entry_number D.rule entries.now }
     {
@@ -41,6 +42,7 @@ impl<D: DoorKind> Row<D> {
     }
 
     // Puts a door at a place, if the board has the place.
+    #[tactic(auto, using(crate::proofs::Rows::row_of_set))]
     fn put(&mut self, place: Place, door: D)
         ensures { row_meaning D.all_shown D.rule self.new ≡ with_door (row_meaning D.all_shown D.rule self.old) place (D.shown door) }
     {

@@ -51,6 +51,7 @@ impl Wheel {
     }
 
     // The turn that brings this wheel to where another stands.
+    #[tactic(auto, using(crate::proofs::Turning::turn_worked_out, crate::proofs::Turning::turn_low, crate::proofs::Turning::turn_high, crate::proofs::Turning::turn_leads_there))]
     fn turn_to(self, to: Wheel) -> Turn
         ensures turn { result.by ≡ turn_of self.at to.at }
         ensures at_most_half_way { (negsuc 49 ≤ℤ result.by) × (result.by ≤ℤ pos 49) }
@@ -61,6 +62,7 @@ impl Wheel {
         }
     }
 
+    #[tactic(auto, using(crate::proofs::Turning::turned_worked_out))]
     fn turned(self, turn: Turn) -> Wheel
         ensures { result.at ≡ turned_by self.at turn.by }
     {

@@ -49,6 +49,7 @@ fn row_at(stands: bool, bytes: &[u8], at: usize) -> Option<Seal>
 }
 
 // The rows of a map: a seal for each bit that stands, read one after the other.
+#[tactic(auto, using(crate::proofs::Rows::rows_more, crate::proofs::Rows::set_next), unfolding(letters::specs::Bytes::rows_at))]
 fn read_rows(rows: &mut [Option<Seal>], map: u16, bytes: &[u8], from: usize)
     requires { (from < 500) × (length rows.old ≤ 16) }
     ensures { rows.new ≡ rows_at (length rows.old) map bytes.now from }
@@ -78,6 +79,7 @@ fn vote_of(ready: bool, seal: Option<Seal>) -> Option<Vote>
 }
 
 // The votes: a seal for each place that voted, and a bit for each that is ready.
+#[tactic(auto, unfolding(crate::specs::Kept::votes_of))]
 fn read_votes(votes: &mut [Option<Vote>], ready: u8, seals: &[Option<Seal>])
     requires { length votes.old ≡ length seals.now }
     ensures { votes.new ≡ Kept.votes_of ready seals.now }

@@ -36,6 +36,7 @@ impl Row for [u64; 25] {
 
     ghost by_own_row = { λ _ _ _. refl };
 
+    #[tactic(auto, unfolding(crate::specs::Sheet::weighted))]
     fn blank() -> [u64; 25] {
         [0; 25]
     }

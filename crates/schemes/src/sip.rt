@@ -13,6 +13,7 @@ pub struct State {
     v3: u64,
 }
 
+#[tactic(auto, unfolding(crate::specs::Sip::first))]
 fn first_half(s: State) -> State
     ensures { result ≡ Sip.first s }
 {
@@ -26,6 +27,7 @@ fn first_half(s: State) -> State
     }
 }
 
+#[tactic(auto, unfolding(crate::specs::Sip::second))]
 fn second_half(s: State) -> State
     ensures { result ≡ Sip.second s }
 {
@@ -45,6 +47,7 @@ fn turned(s: State) -> State
     second_half(first_half(s))
 }
 
+#[tactic(auto, unfolding(crate::specs::Sip::absorb))]
 fn absorbing(s: State, w: u64) -> State
     ensures { result ≡ Sip.absorb s w }
 {
@@ -52,6 +55,7 @@ fn absorbing(s: State, w: u64) -> State
     State { v0: t.v0 ^ w, ..t }
 }
 
+#[tactic(auto, unfolding(crate::specs::Sip::finish))]
 fn ending(s: State) -> u64
     ensures { result ≡ Sip.finish s }
 {
@@ -81,6 +85,7 @@ fn first_word(bytes: &[u8]) -> u64
 }
 
 // What is left of a message after its whole words, and the message's length in the top byte.
+#[tactic(auto, using(crate::proofs::Words::left_word))]
 fn last_word(m: &[u8]) -> u64
     ensures { result ≡ Sip.last_word m.now }
 {
@@ -89,6 +94,7 @@ fn last_word(m: &[u8]) -> u64
 }
 
 // The hash of a message under the two words of a key.
+#[tactic(auto, using(crate::proofs::Words::word_is), unfolding(crate::specs::Sip::absorbed))]
 pub fn sip_hash(k0: u64, k1: u64, m: &[u8]) -> u64
     ensures { result ≡ Sip.sip_hash k0 k1 m.now }
 {

@@ -70,6 +70,7 @@ impl<S: Scheme> Judge<'_, S> {
     }
 
     // The seals of one row after the other.
+    #[tactic(auto, using(crate::proofs::Accepts::accept_row, crate::proofs::Accepts::accept_no_row))]
     fn accept_rows<R: SealRows>(
         &self,
         room: &mut Room,
