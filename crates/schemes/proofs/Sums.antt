@@ -1,5 +1,5 @@
 -- The weighted sum of no bytes, one byte more, and all of them.
-use Rattle.std.proofs.Common.{◌≡◌, ℕ, ◌+◌, ◌*◌, ◌%◌, ◌^◌, ◌<◌, List, get_or, fold, refl, ap, ◌∙◌, add-one, arith}
+use Rattle.std.proofs.Common.{◌≡◌, ℕ, ◌+◌, ◌*◌, ◌%◌, ◌^◌, ◌<◌, List, get_or, fold, refl, ap, add-one, arith}
 use Rattle.std.specs.List.{range_with_len}
 use Rattle.letters.proofs.Below.{fold_below}
 use Rattle.schemes.specs.Sheet.{added, weighted, sheet_sum}
