@@ -4,6 +4,7 @@ use lib.Count.{ones, ones_step, ones-le}
 use Rattle.std.proofs.lemmas.List.{length-append}
 use Rattle.std.proofs.lemmas.Bool.{cond_both, eqb-true, ltb-true}
 use Rattle.std.proofs.lemmas.Bool.Decides.{nat_tests}
+use Rattle.std.proofs.lemmas.Grind.{common_steps}
 use Rattle.terms.specs.declared.numbers.Change.{Change}
 use Rattle.terms.specs.declared.numbers.KeyNumber.{KeyNumber}
 use Rattle.terms.specs.declared.numbers.View.{View}
@@ -35,15 +36,14 @@ unfolding le8
 eight_length n = refl
 
 pub number_length : (n : Option KeyNumber) → length (number_bytes n) ≤ 4
-number_length None = omega arith
-number_length (Some n) = omega (arith, four_length n.0)
+number_length n = grind (arith, four_length)
 
 -- one more bit below a map
 ones_double : (m : ℕ) → ones (0 + 2 * m) ≡ ones m
-ones_double m = ones_step (0 + 2 * m) ∙ (let e : (0 + 2 * m) / 2 ≡ m = omega arith in let d : (0 + 2 * m) % 2 ≡ 0 = omega arith in rw (e, d) (omega arith))
+ones_double m = grind (arith, ones_step (0 + 2 * m))
 
 ones_more : (m : ℕ) → ones (1 + 2 * m) ≡ 1 + ones m
-ones_more m = ones_step (1 + 2 * m) ∙ (let e : (1 + 2 * m) / 2 ≡ m = omega arith in let d : (1 + 2 * m) % 2 ≡ 1 = omega arith in rw (e, d) (omega arith))
+ones_more m = grind (arith, ones_step (1 + 2 * m))
 
 -- eight bytes for each row that has a seal
 pub rows_length : (rs : List (Option Seal)) → length (row_bytes rs) ≡ 8 * ones (map_of is_some rs)
@@ -94,23 +94,7 @@ movers_length : (v : View) (m : SeatSet) → length (movers_bytes v m) ≤ 2
 movers_length v m = cond_both (eqb v.0 0) [] (le2 m.0) (λ xs. length xs ≤ 2) (λ e. omega arith) (λ e. omega (arith, two_length m.0))
 
 pub body_length : (sizes : Sizes) (t : Change) (b : Body Certificate Basis) → body_fits sizes t b ≡ true → length (body_bytes t b) ≤ 5 + 1 + 4 + (1 + 2 + 8 + 16 * sizes.faults) + (4 + 4 + 8 + 16 * sizes.locks)
-body_length sizes t (Enrol p) h = omega arith
-body_length sizes t (Receipt s p) h = omega arith
-body_length sizes t (Order n) h = omega (arith, number_length n)
-body_length sizes t (Summons s n z) h = simp length-append (omega (arith, four_length n.0, eight_length z.0))
-body_length sizes t (Vote p n a) h = simp length-append (omega (arith, four_length n.0))
-body_length sizes t (Proposal s v x c m) h =
-    let f : certificate_fits sizes c ≡ true = grind (arith, nat_tests) in
-    let n = number_length (outcome_number x) in let k = certificate_length sizes c f in
-    let e = length-append (number_bytes (outcome_number x) ++ certificate_bytes c) (movers_bytes v m) in
-    let d = length-append (number_bytes (outcome_number x)) (certificate_bytes c) in
-    let j = movers_length v m in omega arith
-body_length sizes t (Assent s v x d) h = simp length-append (omega (arith, number_length (outcome_number x), eight_length d.0))
-body_length sizes t (Confirm s v x d) h = simp length-append (omega (arith, number_length (outcome_number x), eight_length d.0))
-body_length sizes t (Result s x) h = omega (arith, number_length (outcome_number x))
-body_length sizes t (Move s v b) h =
-    let f : grounds_fit sizes t v b ≡ true = grind (arith, nat_tests) in
-    let k = grounds_length sizes t v b f in omega arith
+body_length sizes t b h = grind (arith, nat_tests, common_steps, number_length, four_length, eight_length, certificate_length, grounds_length, movers_length)
 
 -- no letter within range is longer
 pub letter_length : (sizes : Sizes) → Suffices sizes (longest_of sizes)
