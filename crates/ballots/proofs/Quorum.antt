@@ -1,5 +1,5 @@
 -- Two values that do not agree share no ballot.
-use Rattle.std.proofs.Common.{◌≡◌, ℕ, ◌+◌, ◌<◌, ◌≤◌, Bool, true, false, cond, List, [], ◌∷◌, length, Some, None, Option, sym, refl, ◌∙◌, arith}
+use Rattle.std.proofs.Common.{◌≡◌, ◌+◌, ◌<◌, ◌≤◌, Bool, true, false, cond, List, [], ◌∷◌, length, Option, arith}
 use Rattle.std.proofs.lemmas.List.Sums.{sum_by-cons}
 use Rattle.ballots.specs.Counts.{votes_for, count_agree}
 
@@ -8,14 +8,7 @@ module _ {V : Type 0} (agree : V → V → Bool)
     (trans : (x y z : V) → agree x y ≡ true → agree y z ≡ true → agree x z ≡ true) where
   -- one ballot counts for at most one of two that do not agree
   pub at_most_one : (a b : V) → agree a b ≡ false → (x : Option V) → cond (votes_for agree a x) 1 0 + cond (votes_for agree b x) 1 0 ≤ 1
-  at_most_one a b no-ab None = omega arith
-  at_most_one a b no-ab (Some w) = go (agree w a) (agree w b) refl refl
-    where
-      go : (p q : Bool) → agree w a ≡ p → agree w b ≡ q → cond p 1 0 + cond q 1 0 ≤ 1
-      go true true ea eb = let z : true ≡ false = sym (trans a w b (symm a w ∙ ea) eb) ∙ no-ab in let n : ◌≡◌ {A = ℕ} 0 1 = cc in omega arith
-      go true false ea eb = omega arith
-      go false true ea eb = omega arith
-      go false false ea eb = omega arith
+  at_most_one a b no-ab x = grind (arith, symm, trans)
 
   pub no_shared : (a b : V) → agree a b ≡ false → (xs : List (Option V)) → count_agree agree a xs + count_agree agree b xs ≤ length xs
   no_shared a b no-ab [] = omega arith
@@ -25,8 +18,4 @@ module _ {V : Type 0} (agree : V → V → Bool)
       omega (arith, at_most_one a b no-ab x, no_shared a b no-ab xs)
 
   pub winners : (a b : V) (xs : List (Option V)) → length xs < count_agree agree a xs + count_agree agree b xs → agree a b ≡ true
-  winners a b xs h = go (agree a b) refl
-    where
-      go : (p : Bool) → agree a b ≡ p → p ≡ true
-      go true e = refl
-      go false e = absurd (omega (arith, no_shared a b e xs))
+  winners a b xs h = grind (arith, no_shared a b)

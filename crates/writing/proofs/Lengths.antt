@@ -4,6 +4,7 @@ use lib.Count.{ones, ones_step, ones-le}
 use Rattle.std.proofs.lemmas.List.{length-append}
 use Rattle.std.proofs.lemmas.Bool.{cond_both, eqb-true, ltb-true}
 use Rattle.std.proofs.lemmas.Bool.Decides.{nat_tests}
+use Rattle.std.proofs.lemmas.Grind.{common_steps}
 use Rattle.terms.specs.declared.numbers.Change.{Change}
 use Rattle.terms.specs.declared.numbers.KeyNumber.{KeyNumber}
 use Rattle.terms.specs.declared.numbers.View.{View}
@@ -35,86 +36,47 @@ unfolding le8
 eight_length n = refl
 
 pub number_length : (n : Option KeyNumber) → length (number_bytes n) ≤ 4
-number_length None = omega arith
-number_length (Some n) = omega (arith, four_length n.0)
+number_length n = grind (arith, four_length)
 
 -- one more bit below a map
 ones_double : (m : ℕ) → ones (0 + 2 * m) ≡ ones m
-ones_double m = ones_step (0 + 2 * m) ∙ (let e : (0 + 2 * m) / 2 ≡ m = omega arith in let d : (0 + 2 * m) % 2 ≡ 0 = omega arith in rw (e, d) (omega arith))
+ones_double m = grind (arith, ones_step (0 + 2 * m))
 
 ones_more : (m : ℕ) → ones (1 + 2 * m) ≡ 1 + ones m
-ones_more m = ones_step (1 + 2 * m) ∙ (let e : (1 + 2 * m) / 2 ≡ m = omega arith in let d : (1 + 2 * m) % 2 ≡ 1 = omega arith in rw (e, d) (omega arith))
+ones_more m = grind (arith, ones_step (1 + 2 * m))
 
 -- eight bytes for each row that has a seal
 pub rows_length : (rs : List (Option Seal)) → length (row_bytes rs) ≡ 8 * ones (map_of is_some rs)
 unfolding row_bytes map_of
 rows_length [] = omega (arith, ones-le 0 0 (lit< tt))
-rows_length (None ∷ rs) = rows_length rs ∙ ap (λ k. 8 * k) (sym (ones_double (map_of is_some rs)))
-rows_length (Some z ∷ rs) = length-append (le8 z.0) (row_bytes rs) ∙ omega (arith, eight_length z.0, rows_length rs, ones_more (map_of is_some rs))
+rows_length (r ∷ rs) = grind (arith, common_steps, eight_length, rows_length rs, ones_double, ones_more)
 
 -- no more votes than enrolments
 pub votes_length : (es : List (Option Seal)) (vs : List (Option CastVote)) → votes_within es vs ≡ true → length (row_bytes (vote_seals vs)) ≤ length (row_bytes es)
 unfolding row_bytes vote_seals votes_within
 votes_length es [] h = omega arith
-votes_length [] (None ∷ vs) h = votes_length [] vs h
-votes_length [] (Some v ∷ vs) h = absurd (grind arith)
-votes_length (None ∷ es) (None ∷ vs) h = votes_length es vs h
-votes_length (None ∷ es) (Some v ∷ vs) h = absurd (grind arith)
-votes_length (Some z ∷ es) (None ∷ vs) h = omega (arith, votes_length es vs h, length-append (le8 z.0) (row_bytes es))
-votes_length (Some z ∷ es) (Some v ∷ vs) h =
-    omega (arith, votes_length es vs h, length-append (le8 z.0) (row_bytes es), length-append (le8 v.seal.0) (row_bytes (vote_seals vs)), eight_length z.0, eight_length v.seal.0)
+votes_length [] (v ∷ vs) h = grind (arith, votes_length [] vs)
+votes_length (e ∷ es) (v ∷ vs) h = grind (arith, common_steps, votes_length es vs, eight_length)
 
 -- under the lengths that a certificate within range has
 pub certificate_length : (sizes : Sizes) (c : Certificate) → certificate_fits sizes c ≡ true → length (certificate_bytes c) ≤ 4 + 4 + 8 + 16 * sizes.locks
-certificate_length sizes c h =
-    let m : ltb (map_of is_some c.enrolled) (2 ^ sizes.locks) ≡ true = grind (arith, nat_tests) in
-    let v : votes_within c.enrolled c.votes ≡ true = grind (arith, nat_tests) in
-    let k : ones (map_of is_some c.enrolled) ≤ sizes.locks = ones-le sizes.locks (map_of is_some c.enrolled) (ltb-true _ _ m) in
-    let e = rows_length c.enrolled in let w = votes_length c.enrolled c.votes v in
-    let n = number_length c.order.number in let z = eight_length c.order.seal.0 in
-    simp length-append (omega arith)
+certificate_length sizes c h = grind (arith, nat_tests, common_steps, rows_length, votes_length, number_length, eight_length, ones-le sizes.locks)
 
 pub basis_length : (sizes : Sizes) (t : Change) (v : View) (b : Basis) → basis_fits sizes t v b ≡ true → length (basis_bytes b) ≤ 1 + 2 + 8 + 16 * sizes.faults
-basis_length sizes t v b h =
-    let m : eqb (ones (map_of is_some b.assents)) (2 * sizes.faults) ≡ true = grind (arith, nat_tests) in
-    let k = eqb-true _ _ m in let e = rows_length b.assents in
-    let w = two_length (map_of is_some b.assents) in let z = eight_length b.leader_seal.0 in
-    simp length-append (omega arith)
+basis_length sizes t v b h = grind (arith, nat_tests, common_steps, rows_length, two_length, eight_length)
 
 pub grounds_length : (sizes : Sizes) (t : Change) (v : View) (b : Option Basis) → grounds_fit sizes t v b ≡ true → length (grounds_bytes b) ≤ 4 + (1 + 2 + 8 + 16 * sizes.faults) + (4 + 4 + 8 + 16 * sizes.locks)
 grounds_length sizes t v None h = omega arith
 grounds_length sizes t v (Some b) h =
     let f : certificate_fits sizes b.certificate ≡ true = grind (arith, nat_tests) in
-    let n = number_length (outcome_number b.outcome) in let k = basis_length sizes t v b h in let c = certificate_length sizes b.certificate f in
-    let e = length-append (number_bytes (outcome_number b.outcome) ++ basis_bytes b) (certificate_bytes b.certificate) in
-    let d = length-append (number_bytes (outcome_number b.outcome)) (basis_bytes b) in
-    omega arith
+    rw (length-append (number_bytes (outcome_number b.outcome) ++ basis_bytes b) _, length-append (number_bytes (outcome_number b.outcome)) _) (omega (arith, number_length (outcome_number b.outcome), basis_length sizes t v b h, certificate_length sizes b.certificate f))
 
 movers_length : (v : View) (m : SeatSet) → length (movers_bytes v m) ≤ 2
-movers_length v m = cond_both (eqb v.0 0) [] (le2 m.0) (λ xs. length xs ≤ 2) (λ e. omega arith) (λ e. omega (arith, two_length m.0))
+movers_length v m = grind (arith, two_length)
 
 pub body_length : (sizes : Sizes) (t : Change) (b : Body Certificate Basis) → body_fits sizes t b ≡ true → length (body_bytes t b) ≤ 5 + 1 + 4 + (1 + 2 + 8 + 16 * sizes.faults) + (4 + 4 + 8 + 16 * sizes.locks)
-body_length sizes t (Enrol p) h = omega arith
-body_length sizes t (Receipt s p) h = omega arith
-body_length sizes t (Order n) h = omega (arith, number_length n)
-body_length sizes t (Summons s n z) h = simp length-append (omega (arith, four_length n.0, eight_length z.0))
-body_length sizes t (Vote p n a) h = simp length-append (omega (arith, four_length n.0))
-body_length sizes t (Proposal s v x c m) h =
-    let f : certificate_fits sizes c ≡ true = grind (arith, nat_tests) in
-    let n = number_length (outcome_number x) in let k = certificate_length sizes c f in
-    let e = length-append (number_bytes (outcome_number x) ++ certificate_bytes c) (movers_bytes v m) in
-    let d = length-append (number_bytes (outcome_number x)) (certificate_bytes c) in
-    let j = movers_length v m in omega arith
-body_length sizes t (Assent s v x d) h = simp length-append (omega (arith, number_length (outcome_number x), eight_length d.0))
-body_length sizes t (Confirm s v x d) h = simp length-append (omega (arith, number_length (outcome_number x), eight_length d.0))
-body_length sizes t (Result s x) h = omega (arith, number_length (outcome_number x))
-body_length sizes t (Move s v b) h =
-    let f : grounds_fit sizes t v b ≡ true = grind (arith, nat_tests) in
-    let k = grounds_length sizes t v b f in omega arith
+body_length sizes t b h = grind (arith, nat_tests, common_steps, number_length, four_length, eight_length, certificate_length, grounds_length, movers_length)
 
 -- no letter within range is longer
 pub letter_length : (sizes : Sizes) → Suffices sizes (longest_of sizes)
-letter_length sizes l h =
-    let f : body_fits sizes l.change l.body ≡ true = grind (arith, nat_tests) in
-    let e = length-append (body_bytes l.change l.body) (le8 l.seal.0) in
-    omega (arith, body_length sizes l.change l.body f, eight_length l.seal.0)
+letter_length sizes l h = grind (arith, nat_tests, common_steps, body_length, eight_length)
