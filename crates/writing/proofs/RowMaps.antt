@@ -1,5 +1,6 @@
 -- Maps of rows, from the last row down.
 use Rattle.std.proofs.Common.{◌≡◌, ℕ, suc, ◌+◌, ◌*◌, ◌^◌, ◌<◌, ◌≤◌, Bool, true, false, cond, List, [], ◌∷◌, ◌++◌, length, sym, refl, ap, ◌∙◌, pow-suc, arith, length-append, pow_mono}
+use Rattle.std.proofs.lemmas.Grind.{common_steps}
 use Rattle.std.proofs.lemmas.List.{append_assoc, append-nil}
 use Rattle.letters.specs.Bytes.{map_of}
 
@@ -16,8 +17,7 @@ unfolding map_of
 map_start Known rows = record { done = []; parts = append-nil rows; maps = λ test k. refl; small = omega arith }
 
 bit_small : (b : Bool) → cond b 1 0 ≤ 1
-bit_small true = omega arith
-bit_small false = omega arith
+bit_small b = grind arith
 
 -- the last row that is left is done
 pub map_step :
@@ -43,8 +43,7 @@ map_room {A} {Known} {rows} {left} {m} s e h =
     let p : 2 ^ length s.done ≤ 2 ^ 15 = pow_mono few in omega (arith, s.small)
 
 none_left : {A : Type 0} (left : List A) → length left ≡ 0 → left ≡ []
-none_left [] e = refl
-none_left (x ∷ xs) e = absurd (omega arith)
+none_left left e = grind (arith, common_steps)
 
 -- none is left
 pub map_all : {A : Type 0} {Known : (A → Bool) → Type 0} {rows left : List A} {m : ℕ} → MapSoFar Known rows left m → length left ≡ 0 → (test : A → Bool) → Known test → m ≡ map_of test rows

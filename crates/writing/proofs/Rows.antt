@@ -34,13 +34,7 @@ rows_next {A} {before} {after} {r} old seal xs i x h at b a e =
 -- no seal is longer than eight bytes
 pub seal_length : (r : Option Seal) → length (seal_bytes r) ≤ 8
 unfolding le8
-seal_length None = omega arith
-seal_length (Some z) = omega arith
-
--- the rows as they are
-pub map_same : {A : Type 0} (xs : List A) → map (λ x. x) xs ≡ xs
-map_same [] = refl
-map_same (x ∷ xs) = ap (λ z. x ∷ z) (map_same xs)
+seal_length r = grind arith
 
 pub map_seals : (vs : List (Option Vote)) → map vote_seal vs ≡ vote_seals vs
 unfolding vote_seals
