@@ -1,8 +1,7 @@
 -- How long letters and their parts are.
-use Rattle.std.proofs.Common.{◌≡◌, ℕ, ◌+◌, ◌*◌, ◌/◌, ◌%◌, ◌^◌, ◌≤◌, true, eqb, ltb, List, [], ◌∷◌, ◌++◌, length, is_some, Some, None, Option, sym, refl, ap, ◌∙◌, arith, lit<}
+use Rattle.std.proofs.Common.{◌≡◌, ℕ, ◌+◌, ◌*◌, ◌≤◌, true, List, [], ◌∷◌, ◌++◌, length, is_some, Some, None, Option, refl, arith, lit<}
 use lib.Count.{ones, ones_step, ones-le}
 use Rattle.std.proofs.lemmas.List.{length-append}
-use Rattle.std.proofs.lemmas.Bool.{cond_both, eqb-true, ltb-true}
 use Rattle.std.proofs.lemmas.Bool.Decides.{nat_tests}
 use Rattle.std.proofs.lemmas.Grind.{common_steps}
 use Rattle.terms.specs.declared.numbers.Change.{Change}
@@ -17,7 +16,6 @@ use Rattle.letters.specs.declared.certificates.Basis.{Basis}
 use Rattle.letters.specs.Bytes.{le2, le4, le8, map_of, row_bytes}
 use Rattle.letters.specs.Certificates.{vote_seals, number_bytes, certificate_bytes}
 use Rattle.letters.specs.declared.bodies.Body.{Body}
-use Rattle.letters.specs.declared.bodies.Body.TheVariants.{Enrol, Receipt, Order, Summons, Vote, Proposal, Assent, Confirm, Result, Move}
 use Rattle.letters.specs.Layout.{movers_bytes, basis_bytes, grounds_bytes, body_bytes}
 use Rattle.letters.specs.Ranges.{votes_within, certificate_fits, basis_fits, grounds_fit, body_fits}
 use Rattle.letters.specs.Statements.{outcome_number}

@@ -1,5 +1,6 @@
 -- Maps of rows, from the last row down.
-use Rattle.std.proofs.Common.{◌≡◌, ℕ, suc, ◌+◌, ◌*◌, ◌^◌, ◌<◌, ◌≤◌, Bool, true, false, cond, List, [], ◌∷◌, ◌++◌, length, sym, refl, ap, ◌∙◌, pow-suc, arith, length-append, pow_mono}
+use Rattle.std.proofs.Common.{◌≡◌, ℕ, suc, ◌+◌, ◌*◌, ◌^◌, ◌<◌, ◌≤◌, Bool, cond, List, [], ◌∷◌, ◌++◌, length, sym, refl, ap, ◌∙◌, pow-suc, arith, length-append, pow_mono}
+use Rattle.std.proofs.lemmas.Grind.{common_steps}
 use Rattle.std.proofs.lemmas.List.{append_assoc, append-nil}
 use Rattle.letters.specs.Bytes.{map_of}
 
@@ -16,8 +17,7 @@ unfolding map_of
 map_start Known rows = record { done = []; parts = append-nil rows; maps = λ test k. refl; small = omega arith }
 
 bit_small : (b : Bool) → cond b 1 0 ≤ 1
-bit_small true = omega arith
-bit_small false = omega arith
+bit_small b = grind arith
 
 -- the last row that is left is done
 pub map_step :
@@ -33,18 +33,23 @@ map_step {A} {Known} {rows} {left} {rest} {m} b x s e t =
       small = omega (arith, bit_small b, s.small);
     }
 
+-- the map of those done is below a power of two, of which the rows that are left and they are no more
+map_below :
+    {A : Type 0} {Known : (A → Bool) → Type 0} {rows left : List A} {m : ℕ} (k : ℕ) →
+    MapSoFar Known rows left m → length rows ≤ length left + k → m < 2 ^ k
+map_below {A} {Known} {rows} {left} {m} k s h =
+    let n : length rows ≡ length left + length s.done = ap length (sym s.parts) ∙ length-append left s.done in
+    let few : length s.done ≤ k = omega arith in
+    let p : 2 ^ length s.done ≤ 2 ^ k = pow_mono few in omega (arith, s.small)
+
 -- of at most sixteen rows, with one left, those done have a map of fifteen bits
 pub map_room :
     {A : Type 0} {Known : (A → Bool) → Type 0} {rows left : List A} {m : ℕ} →
     MapSoFar Known rows left m → 0 < length left → length rows ≤ 16 → m < 32768
-map_room {A} {Known} {rows} {left} {m} s e h =
-    let n : length rows ≡ length left + length s.done = ap length (sym s.parts) ∙ length-append left s.done in
-    let few : length s.done ≤ 15 = omega arith in
-    let p : 2 ^ length s.done ≤ 2 ^ 15 = pow_mono few in omega (arith, s.small)
+map_room s e h = map_below 15 s (omega arith)
 
 none_left : {A : Type 0} (left : List A) → length left ≡ 0 → left ≡ []
-none_left [] e = refl
-none_left (x ∷ xs) e = absurd (omega arith)
+none_left left e = grind (arith, common_steps)
 
 -- none is left
 pub map_all : {A : Type 0} {Known : (A → Bool) → Type 0} {rows left : List A} {m : ℕ} → MapSoFar Known rows left m → length left ≡ 0 → (test : A → Bool) → Known test → m ≡ map_of test rows
@@ -52,7 +57,4 @@ map_all {A} {Known} {rows} {left} {m} s e test k = s.maps test k ∙ ap (map_of 
 
 -- up to eight rows have a map of one byte
 pub map_byte : {A : Type 0} {Known : (A → Bool) → Type 0} {rows left : List A} {m : ℕ} → MapSoFar Known rows left m → length rows ≤ 8 → m < 256
-map_byte {A} {Known} {rows} {left} {m} s h =
-    let n : length rows ≡ length left + length s.done = ap length (sym s.parts) ∙ length-append left s.done in
-    let few : length s.done ≤ 8 = omega arith in
-    let p : 2 ^ length s.done ≤ 2 ^ 8 = pow_mono few in omega (arith, s.small)
+map_byte s h = map_below 8 s (omega arith)

@@ -1,5 +1,5 @@
 -- The seals of some rows, and of one row more.
-use Rattle.std.proofs.Common.{◌≡◌, ℕ, ◌+◌, ◌<◌, ◌≤◌, List, [], ◌∷◌, ◌++◌, length, map, take, get_or, Some, None, Option, sym, refl, ap, ◌∙◌, arith}
+use Rattle.std.proofs.Common.{◌≡◌, ℕ, ◌+◌, ◌<◌, ◌≤◌, List, [], ◌∷◌, ◌++◌, length, map, take, get_or, Option, sym, refl, ap, ◌∙◌, arith}
 use Rattle.std.proofs.lemmas.List.{append_assoc, append-nil, take_more, map-append}
 use Rattle.letters.specs.declared.sorts.Seal.{Seal}
 use Rattle.letters.specs.declared.certificates.Vote.{Vote}
@@ -26,21 +26,12 @@ pub rows_next :
     after ≡ old ++ row_bytes (map seal (take (i + 1) xs))
 rows_next {A} {before} {after} {r} old seal xs i x h at b a e =
     let more : take (i + 1) xs ≡ take i xs ++ x ∷ [] = take_more xs i x h ∙ ap (λ z. take i xs ++ z ∷ []) (sym at) in
-    a ∙ ap (λ z. z ++ seal_bytes r) b ∙ append_assoc old (row_bytes (map seal (take i xs))) (seal_bytes r)
-    ∙ ap (λ z. old ++ (row_bytes (map seal (take i xs)) ++ seal_bytes z)) e
-    ∙ ap (λ z. old ++ z) (sym (rows_more (map seal (take i xs)) (seal x)) ∙ ap row_bytes (sym (map-append seal (take i xs) (x ∷ []))))
-    ∙ ap (λ z. old ++ row_bytes (map seal z)) (sym more)
+    rw (a, b, e, more, map-append, rows_more, append_assoc)
 
 -- no seal is longer than eight bytes
 pub seal_length : (r : Option Seal) → length (seal_bytes r) ≤ 8
 unfolding le8
-seal_length None = omega arith
-seal_length (Some z) = omega arith
-
--- the rows as they are
-pub map_same : {A : Type 0} (xs : List A) → map (λ x. x) xs ≡ xs
-map_same [] = refl
-map_same (x ∷ xs) = ap (λ z. x ∷ z) (map_same xs)
+seal_length r = grind arith
 
 pub map_seals : (vs : List (Option Vote)) → map vote_seal vs ≡ vote_seals vs
 unfolding vote_seals

@@ -12,6 +12,7 @@ fn with_bit(map: u16, bit: bool) -> u16
 }
 
 // The rows that pass a test.
+#[tactic(auto, using(crate::proofs::RowMaps::map_start, crate::proofs::RowMaps::map_step, crate::proofs::RowMaps::map_all))]
 pub(crate) fn map_of<T, F: Fn(&T) -> bool>(rows: &[T], passes: F) -> u16
     requires callable { F.IsAlwaysCallable passes }
     requires few { length rows.now ≤ 16 }

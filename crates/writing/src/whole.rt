@@ -58,6 +58,7 @@ pub fn write_both(
 }
 
 // So many bytes hold every letter within range of such a vault; 253 hold those of any.
+#[tactic(auto, using(crate::proofs::Lengths::letter_length))]
 pub fn longest(sizes: Sizes) -> usize
     ensures value { result ≡ longest_of sizes }
     ensures suffices { Suffices sizes result }

@@ -1,7 +1,8 @@
 use Rattle.std.proofs.Common.{is_some, rules}
 use Rattle.letters.specs.Bytes.{le8}
 use Rattle.letters.specs.Certificates.{ready_vote, vote_seal}
-use Rattle.writing.proofs.Rows.{map_same, map_seals}
+use Rattle.std.proofs.lemmas.List.{map-id}
+use Rattle.writing.proofs.Rows.{map_seals}
 use Rattle.writing.proofs.certificates.certificate_draft.Goals as goal
 
 pub returns : goal.returns
@@ -12,4 +13,4 @@ returns c =
     let ready = c.map_of-ready.ensures.map ready_vote (λ x r h. search rules) in
     let seals = c.extend_rows.ensures.rows (λ r. r) (λ x r h. search rules) in
     let votes = c.extend_rows-2.ensures.rows vote_seal (λ x r h. search rules) in
-    rw (votes, map_seals, seals, map_same, c.extend-2.ensures, c.append.ensures.joined, c.extend.ensures, enrolled, voted, ready) (search rules)
+    rw (votes, map_seals, seals, map-id, c.extend-2.ensures, c.append.ensures.joined, c.extend.ensures, enrolled, voted, ready) (search rules)
