@@ -40,6 +40,7 @@ pub enum Answer {
     Refuse,
 }
 
+// The number of a kind and of an answer is asked by a method, which says what is asked; `From` would not.
 impl Kind {
     pub fn number(self) -> u8
         ensures { result ≡ kind_number self }

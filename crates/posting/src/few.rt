@@ -1,4 +1,4 @@
-// Up to two things, in their order.
+// Up to two things, in their order: no option, which is one at most, and no vector, which would be on the heap.
 use letters::sorts::Seal;
 
 #[derive(Clone, Copy)]
@@ -8,7 +8,8 @@ pub enum AtMostTwo<T> {
     Two(T, T),
 }
 
-// The seals under the letters of one call; one that no letter needs is 0.
+// The seals under the letters of one call; one that no letter needs is 0. They are two whatever is sent, since a
+// call goes by a rule under two seals, of which the rule keeps the first.
 #[derive(Clone, Copy)]
 pub struct Seals {
     pub first: Seal,

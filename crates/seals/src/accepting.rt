@@ -52,7 +52,8 @@ impl<S: Scheme> Judge<'_, S> {
         Ok(before + 1)
     }
 
-    // The seal of a row, if the row has one.
+    // The seal of a row, if the row has one. A match here and at the grounds of a move: `map_or` would lend the room
+    // to a closure.
     fn accept_if(
         &self,
         room: &mut Room,

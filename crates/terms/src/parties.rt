@@ -24,7 +24,7 @@ pub enum Outcome {
 }
 
 impl Party {
-    // The party's number in letters and statements.
+    // The party's number in letters and statements; a method, since a row of keys has other numbers for parties.
     pub fn number(self) -> u32
         ensures { result ≡ party_number self }
     {

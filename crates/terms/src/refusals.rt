@@ -71,6 +71,7 @@ pub struct Refusal {
     pub place: usize,
 }
 
+// The numbers of layers and causes, as they are told: a method says which of them is asked, as `From` would not.
 impl Layer {
     pub fn number(self) -> u8
         ensures { result ≡ layer_number self }
