@@ -47,6 +47,7 @@ pub struct Draft {
     pub(crate) movers: SeatSet,
 }
 
+// All of a controller, in tables of fixed length, since nothing is on the heap.
 #[derive(Clone, Copy)]
 pub struct Controller {
     pub(crate) seat: Seat,

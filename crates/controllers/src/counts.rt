@@ -58,6 +58,9 @@ fn better(best: Option<Basis>, next: Option<Basis>) -> Option<Basis>
     }
 }
 
+// Here and below the seats, or the places, go by number, as the definitions do: a table is a slice of any length,
+// and past its last row there is no entry.
+
 // The basis with the highest view among the movers' records of a view, the lowest seat at a tie.
 pub(crate) fn choose(records: &[Option<MoveRecord>], movers: SeatSet, view: View) -> Option<Basis>
     ensures { result ≡ Choice.best records.now movers.0 view 16 }

@@ -10,7 +10,7 @@ ghost use Rattle.controllers.specs.Rules as Rules;
 use crate::controller::{Controller, Proposal};
 use ballots::Pair;
 use letters::bodies::{Body, WholeBody, WholeLetter};
-use letters::senders::sender_of;
+use letters::senders::sender_number;
 use letters::sorts::Seal;
 use posting::few::Posted;
 use posting::finish::{answer, finish};
@@ -21,12 +21,6 @@ use terms::numbers::Change;
 use terms::refusals::{Refusal, RuleCause};
 use terms::sizes::Sizes;
 use writing::certificates::certificate_digest;
-
-fn sender_number(body: &WholeBody) -> usize
-    ensures { result ≡ party_number (sender_of body.now) }
-{
-    sender_of(body).number() as usize
-}
 
 impl Controller {
     // Keeps what the controller has become, unless the call is refused.

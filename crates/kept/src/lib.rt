@@ -20,6 +20,8 @@ fn byte_at(bytes: &[u8], at: usize) -> u8
     bytes.get(at).copied().unwrap_or(0)
 }
 
+// Two, four and eight bytes at an offset, each of one line: a definition tells each number, and none the bytes
+// alone. An offset within a letter is small, which is asked for here so that it can be added to.
 fn two_at(bytes: &[u8], at: usize) -> u16
     requires { at < 1000 }
     ensures { result ≡ two_at bytes.now at }
@@ -85,6 +87,7 @@ fn read_votes(votes: &mut [Option<Vote>], ready: u8, seals: &[Option<Seal>])
     ensures { votes.new ≡ Kept.votes_of ready seals.now }
 {
     let mut left = ready;
+    // By index: after a loop over two lists what was written is not known to a proof.
     for (k, vote) in votes.iter_mut().enumerate() {
         *vote = vote_of(left % 2 == 1, seals[k]);
         left /= 2;

@@ -12,18 +12,20 @@ fn key(number: u32) -> anyhow::Result<KeyNumber> {
     KeyNumber::new(number).context("not a key number")
 }
 
+fn on_a_keypad(rt: &impl Print, number: u32) -> anyhow::Result<()> {
+    let mut board = or_sentence(Keypad::new(&[123, 999_999, 7]))?;
+    change_to(rt, &mut board, key(number)?)?;
+    Ok(())
+}
+
 pub fn keypad_goes_through(rt: &impl Print) -> anyhow::Result<()> {
     println!(rt; "A keypad board is to show 005020.")?;
-    let mut board = or_sentence(Keypad::new(&[123, 999_999, 7]))?;
-    change_to(rt, &mut board, key(5_020)?)?;
-    Ok(())
+    on_a_keypad(rt, 5_020)
 }
 
 pub fn keypad_refuses(rt: &impl Print) -> anyhow::Result<()> {
     println!(rt; "A keypad board is to show 111111, one digit six times over.")?;
-    let mut board = or_sentence(Keypad::new(&[123, 999_999, 7]))?;
-    change_to(rt, &mut board, key(111_111)?)?;
-    Ok(())
+    on_a_keypad(rt, 111_111)
 }
 
 pub fn one_place_refuses(rt: &impl Print) -> anyhow::Result<()> {

@@ -22,7 +22,8 @@ pub struct Vote {
 }
 
 // Why a result was proposed: the order, the enrolled places with their enrol
-// seals, and the votes, by place.
+// seals, and the votes, by place. Two tables of eight, nothing being on the heap: a place is enrolled
+// first and votes later, and the layout has all enrolments before all votes.
 #[derive(Clone, Copy)]
 pub struct Certificate {
     pub order: Order,

@@ -1,5 +1,6 @@
 // Who sends a letter.
 ghost use Rattle.std.specs.Prelude.{◌≡◌};
+ghost use Rattle.terms.specs.Parties.{party_number};
 ghost use Rattle.letters.specs.Senders.{sender_of};
 
 use crate::bodies::Body;
@@ -20,4 +21,11 @@ pub fn sender_of<C, B>(body: &Body<C, B>) -> Party
         | Body::Result { sender, .. }
         | Body::Move { sender, .. } => Party::Controller(*sender),
     }
+}
+
+// The number of that party, as a refusal points to it.
+pub fn sender_number<C, B>(body: &Body<C, B>) -> usize
+    ensures { result ≡ party_number (sender_of body.now) }
+{
+    sender_of(body).number() as usize
 }

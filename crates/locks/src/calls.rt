@@ -1,6 +1,5 @@
 // The calls of a lock.
-ghost use Rattle.std.specs.Prelude.{◌≡◌, ◌↔◌, false, Err};
-ghost use Rattle.terms.specs.Refusals.{no_room};
+ghost use Rattle.std.specs.Prelude.{◌≡◌};
 ghost use Rattle.posting.specs.Calls as Calls;
 ghost use Rattle.locks.specs.Rules as Rules;
 
@@ -21,7 +20,7 @@ impl Lock {
         out: &mut [u8],
     ) -> CallResult
         ensures call { Calls.Goes (S.Scheme.holds scheme.now) change self.old out.old scratch.old (λ _. Calls.pointed 0 (Rules.replied (Rules.enrol_rule self.old))) (Calls.went result self.new out.new scratch.new) }
-        ensures room_suffices { (result ≡ Err no_room) ↔ (Calls.has_room out.old scratch.old ≡ false) }
+        ensures room_suffices { Calls.RoomSuffices result out.old scratch.old }
     {
         require_room(out.len(), scratch.len())?;
         let reply = self.apply();
@@ -37,7 +36,7 @@ impl Lock {
         out: &mut [u8],
     ) -> CallResult
         ensures call { Calls.Goes (S.Scheme.holds scheme.now) change self.old out.old scratch.old (λ _. Calls.pointed 0 (Rules.replied (Rules.decline_rule self.old))) (Calls.went result self.new out.new scratch.new) }
-        ensures room_suffices { (result ≡ Err no_room) ↔ (Calls.has_room out.old scratch.old ≡ false) }
+        ensures room_suffices { Calls.RoomSuffices result out.old scratch.old }
     {
         require_room(out.len(), scratch.len())?;
         let reply = self.take_decline();

@@ -1,7 +1,6 @@
 // A letter handed to a lock.
-ghost use Rattle.std.specs.Prelude.{◌≡◌, ◌↔◌, false, Err};
+ghost use Rattle.std.specs.Prelude.{◌≡◌};
 ghost use Rattle.terms.specs.Parties.{party_number};
-ghost use Rattle.terms.specs.Refusals.{no_room};
 ghost use Rattle.letters.specs.Senders.{sender_of};
 ghost use Rattle.posting.specs.Calls as Calls;
 ghost use Rattle.locks.specs.Letters as Letters;
@@ -10,7 +9,7 @@ ghost use Rattle.locks.specs.Rules as Rules;
 use crate::lock::Lock;
 use boards::board::Board;
 use letters::bodies::Body;
-use letters::senders::sender_of;
+use letters::senders::sender_number;
 use posting::finish::{answer, finish};
 use posting::replies::{CallResult, Reply};
 use posting::room::require_room;
@@ -19,12 +18,6 @@ use schemes::scheme::Scheme;
 use terms::numbers::Change;
 use terms::refusals::RuleCause;
 use terms::sizes::Sizes;
-
-fn sender_number(body: ReadBody) -> usize
-    ensures { result ≡ party_number (sender_of body.entry) }
-{
-    sender_of(&body).number() as usize
-}
 
 impl Lock {
     fn take_body<B: Board>(&mut self, sizes: Sizes, board: &mut B, body: ReadBody) -> Reply
@@ -73,10 +66,10 @@ impl Lock {
     ) -> CallResult
         ensures call { Calls.Goes (S.Scheme.holds scheme.now) change self.old out.old scratch.old (λ _. Calls.pointed (party_number (sender_of letter.entry.body)) (Rules.replied (Letters.letter_rule sizes change self.old (B.Board.meaning board.old) letter.entry))) (Calls.went result self.new out.new scratch.new) }
         ensures board { B.Board.meaning board.new ≡ Rules.board_called (B.Board.meaning board.old) self.old.place out.old scratch.old (Letters.letter_rule sizes change self.old (B.Board.meaning board.old) letter.entry) }
-        ensures room_suffices { (result ≡ Err no_room) ↔ (Calls.has_room out.old scratch.old ≡ false) }
+        ensures room_suffices { Calls.RoomSuffices result out.old scratch.old }
     {
         require_room(out.len(), scratch.len())?;
-        let sender = sender_number(letter.body);
+        let sender = sender_number(&letter.body);
         let reply = self.take_letter(sizes, change, board, letter);
         answer(finish(scheme, change, reply, sender, scratch, out))
     }

@@ -14,7 +14,8 @@ pub enum Standing {
     Kept,
 }
 
-// A lock at its place: the receipts and the results that it recorded, by seat.
+// A lock at its place: the receipts and the results that it recorded, by seat. Two tables of sixteen, nothing being
+// on the heap: a seat may have told of its receipt, of its result, of both or of none.
 #[derive(Clone, Copy)]
 pub struct Lock {
     pub(crate) place: Place,

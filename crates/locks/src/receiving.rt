@@ -1,8 +1,7 @@
 // What the owner of a lock may do with it.
-ghost use Rattle.std.specs.Prelude.{◌≡◌, ◌↔◌, false, Err};
+ghost use Rattle.std.specs.Prelude.{◌≡◌};
 ghost use Rattle.reading.specs.Parts.{shown};
 ghost use Rattle.terms.specs.Parties.{party_number};
-ghost use Rattle.terms.specs.Refusals.{no_room};
 ghost use Rattle.letters.specs.Senders.{sender_of};
 ghost use Rattle.posting.specs.Calls as Calls;
 ghost use Rattle.locks.specs.Rules as Rules;
@@ -49,7 +48,7 @@ impl Lock {
     ) -> CallResult
         ensures call { Calls.Goes (S.Scheme.holds scheme.now) change self.old out.old scratch.old (λ _. Calls.pointed (party_number (sender_of (shown opened.entry.letter).body)) (Rules.replied (Letters.letter_rule sizes change self.old (B.Board.meaning board.old) (shown opened.entry.letter)))) (Calls.went result self.new out.new scratch.new) }
         ensures board { B.Board.meaning board.new ≡ Rules.board_called (B.Board.meaning board.old) self.old.place out.old scratch.old (Letters.letter_rule sizes change self.old (B.Board.meaning board.old) (shown opened.entry.letter)) }
-        ensures room_suffices { (result ≡ Err no_room) ↔ (Calls.has_room out.old scratch.old ≡ false) }
+        ensures room_suffices { Calls.RoomSuffices result out.old scratch.old }
     {
         let letter = opened.spend();
         self.serve(sizes, change, scheme, board, letter, scratch, out)

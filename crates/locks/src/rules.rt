@@ -15,6 +15,7 @@ use terms::refusals::RuleCause;
 use terms::sizes::Sizes;
 
 impl Lock {
+    // A function for each guard that the rules name, though this and declining differ in a standing alone.
     fn may_apply(&self) -> Result<(), RuleCause>
         ensures { result ≡ Rules.may_apply self.now }
     {

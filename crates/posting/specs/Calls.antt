@@ -1,5 +1,5 @@
 -- A call of a unit: what it answers, and what it leaves of the unit and of the two buffers.
-use Rattle.std.specs.Prelude.{◌≡◌, ℕ, Bool, true, cond, ◌&&◌, List, length, is_ok, Ok, Err, Result, nat_le}
+use Rattle.std.specs.Prelude.{◌≡◌, ◌↔◌, ℕ, Bool, true, false, cond, ◌&&◌, List, length, is_ok, Ok, Err, Result, nat_le}
 use Rattle.terms.specs.declared.numbers.Change.{Change}
 use Rattle.terms.specs.declared.refusals.Cause.TheVariants as Cause
 use Rattle.terms.specs.declared.refusals.Refusal.{Refusal}
@@ -63,6 +63,10 @@ pub record Goes {U : Type 0} (holds : Relation) (t : Change) (u : U) (out scratc
   pub words : are_words seals ≡ true
   pub goes : w ≡ called t u out scratch seals (rule seals.first)
   pub sealed : is_ok w.answer ≡ true → reply_sealed holds t seals (rule seals.first) ≡ true
+
+-- a call is refused for want of room only where the buffers are too short to begin with
+abbrev pub RoomSuffices : Result (AtMostTwo ℕ) Refusal → List ℕ → List ℕ → Type 0
+RoomSuffices a out scratch = (a ≡ Err no_room) ↔ (has_room out scratch ≡ false)
 
 -- ---- the end of a call: what its rule replies is answered, and what it sends is posted
 

@@ -1,4 +1,5 @@
-// The end of a call of a unit.
+// The end of a call of a unit. What a call is lent, scheme, scratch and output buffer, is lent in parameters of its
+// own all the way: the rule of the calls on a vault, where board and scheme are never in one struct with slices.
 ghost use Rattle.std.specs.Prelude.{◌≡◌, true, is_ok};
 ghost use Rattle.posting.specs.Calls as Calls;
 ghost use Rattle.posting.specs.Posting.{seals_in, are_words};

@@ -32,7 +32,8 @@ fn unsealed_length(change: Change, body: WholeBody) -> usize
     })
 }
 
-// Here and in the next two functions the scratch buffer has room: `post` tests that once for all.
+// Here and in the next two functions the scratch buffer has room: `post` tests that once for all, and hands on the
+// whole buffer, which `send` takes.
 // Seals one letter and writes it where there is room for it.
 fn post_one<S: Scheme>(
     scheme: &S,

@@ -11,7 +11,8 @@ use terms::refusals::{Cause, FormCause, Refusal};
 use terms::sizes::Sizes;
 
 // The bytes of a letter, and how far they are read. The offset, and not the bytes that are left: a refusal and a
-// part of the letter point to it.
+// part of the letter point to it. The sizes of the vault are passed beside it: within it each method would owe that
+// they stay.
 #[derive(Drop)]
 pub(crate) struct Reader<'a> {
     pub(crate) bytes: &'a [u8],
@@ -143,6 +144,8 @@ impl Reader<'_> {
         Ok(sizes.party(u32::from(n)))
     }
 
+    // A sender that is a lock, a controller or the office, in three functions: each takes one party's own number out,
+    // and a function of the party would be handed what to take out.
     pub(crate) fn take_lock(&mut self, sizes: Sizes) -> Result<Place, Refusal>
         ensures { Reads (Fields.lock_field sizes) self.old self.new result }
     {

@@ -100,6 +100,7 @@ impl<'a> Reader<'a> {
         }
     }
 
+    // This and the basis differ in what is walked through: passed in, it would lend the reader.
     pub(crate) fn take_certificate(&mut self, sizes: Sizes) -> Result<Part<'a>, Refusal>
         ensures { ReadsSpan (Spans.certificate_field sizes) self.old self.new result }
     {

@@ -34,7 +34,7 @@ pub(crate) trait Row: Copy {
 }
 
 impl<'k, R: Row> RowSeals<'k, R> {
-    // Rows for all parties; fewer are refused.
+    // Rows for all parties: controllers 0 to 15, locks 16 to 23, the office 24. Fewer are refused.
     pub fn new(rows: &'k [R]) -> Result<RowSeals<'k, R>, Refusal>
         ensures { rows_of result ≡ taken rows.now }
     {

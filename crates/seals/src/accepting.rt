@@ -52,7 +52,8 @@ impl<S: Scheme> Judge<'_, S> {
         Ok(before + 1)
     }
 
-    // The seal of a row, if the row has one. A match here and at the grounds of a move: `map_or` would lend the room
+    // The seal of a row, if the row has one. How many were accepted before is handed in and out: within the judge,
+    // each method would owe what stays of it. A match here and at the grounds of a move: `map_or` would lend the room
     // to a closure.
     fn accept_if(
         &self,

@@ -1,5 +1,5 @@
 // Why bytes, a letter or a call are refused.
-ghost use Rattle.std.specs.Prelude.{◌≡◌};
+ghost use Rattle.std.specs.Prelude.{◌≡◌, Some};
 ghost use Rattle.terms.specs.Refusals as Refusals;
 ghost use Rattle.terms.specs.Refusals.{number_of, layer_of, layer_number, form_sentence, seal_sentence, rule_sentence, call_sentence, sentence_of};
 
@@ -195,7 +195,10 @@ impl Cause {
     }
 }
 
+// What is printed of a cause is its sentence.
 impl fmt::Display for Cause {
+    ghost output = { λ cause. Some (sentence_of cause) };
+
     fn fmt<W: fmt::Write>(&self, f: &mut fmt::Formatter<W>) -> fmt::Result {
         f.write_str(self.sentence())
     }

@@ -1,6 +1,6 @@
 // The calls on a vault. Each is lent both tables, the board, the seal scheme and the two buffers.
 // They are not one struct: which of them a call may alter differs from call to call, and its signature shows it.
-// Nor has what a call finds and leaves a name of its own: that name would take the same thirteen values.
+// Nor has what a call finds and leaves a name of its own: that name would take the same dozen values.
 ghost use Rattle.std.specs.Prelude.{◌≡◌};
 ghost use Rattle.agreement.specs.Calls as Calls;
 ghost use Rattle.agreement.specs.Law as Law;

@@ -12,7 +12,7 @@ use terms::numbers::KeyNumber;
 fn order_flag(number: Option<KeyNumber>) -> u8
     ensures { result ≡ order_flag number }
 {
-    if number.is_some() { 1 } else { 0 }
+    u8::from(number.is_some())
 }
 
 // The number, if there is one.

@@ -43,10 +43,10 @@ fn says_ready(answer: Option<Answer>) -> bool
 fn flags_of(statement: Statement) -> u8
     ensures { result ≡ flags_of statement }
 {
-    let number = if statement.number.is_some() { 1 } else { 0 };
-    let ready = if says_ready(statement.answer) { 2 } else { 0 };
-    let basis = if statement.basis.is_some() { 4 } else { 0 };
-    number + ready + basis
+    let number = u8::from(statement.number.is_some());
+    let ready = u8::from(says_ready(statement.answer));
+    let basis = u8::from(statement.basis.is_some());
+    number + 2 * ready + 4 * basis
 }
 
 #[tactic(auto, unfolding(letters::specs::Statements::statement_bytes, letters::specs::Bytes::le4, letters::specs::Bytes::le8))]
