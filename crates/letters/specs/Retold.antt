@@ -1,5 +1,5 @@
 -- The same letter, with another account of its certificate and its basis, each of which an account fits.
-use Rattle.std.specs.Prelude.{◌≡◌, Some, None, Option}
+use Rattle.std.specs.Prelude.{◌≡◌}
 use Rattle.letters.specs.declared.bodies.Body.{Body}
 use Rattle.letters.specs.Bodies.{retold}
 
