@@ -13,6 +13,7 @@ fn shows<B: Board>(board: &B, place: Place, force: Option<u32>, staged: Option<u
         && board.staged(place).map(KeyNumber::value) == staged
 }
 
+// A test of its own for what each kind of board takes: the tables are of different numbers.
 #[test]
 fn a_keypad_takes_no_digit_six_times(rt: HostRuntime) -> Result<(), Fail> {
     let table = [
