@@ -49,6 +49,8 @@ impl Vault {
         reach(n, self.sizes.locks(), reached)
     }
 
+    // Four calls on one unit, of two lines each: a function of the call would be lent all that a call is lent, and each
+    // is told by a request of its own.
     pub(crate) fn ring_one<S: Scheme, B: Board>(
         &self,
         controllers: &mut [Controller],
