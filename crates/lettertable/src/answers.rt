@@ -1,5 +1,4 @@
 // What reading a letter comes to.
-use letters::sorts::Kind;
 use reading::read;
 use std::fmt;
 use terms::refusals::Refusal;
@@ -21,22 +20,23 @@ impl From<Refusal> for Refused {
     }
 }
 
-// The kind of a letter that was read, or its refusal, as a line of the table tells it.
+// The number of a letter's kind, or its refusal, as a line of the table tells it; a line may expect
+// a number that no kind has.
 #[derive(Clone, Copy, PartialEq, Eq)]
-pub struct Answer(pub Result<Kind, Refused>);
+pub struct Answer(pub Result<u8, Refused>);
 
 impl fmt::Display for Answer {
     fn fmt<W: fmt::Write>(&self, f: &mut fmt::Formatter<W>) -> fmt::Result {
         match self.0 {
-            Ok(kind) => write!(f, "ok {}", kind.number()),
+            Ok(kind) => write!(f, "ok {kind}"),
             Err(refused) => write!(f, "refused {} {}", refused.number, refused.place),
         }
     }
 }
 
-fn kind_of(sizes: Sizes, bytes: &[u8]) -> Result<Kind, Refused> {
+fn kind_of(sizes: Sizes, bytes: &[u8]) -> Result<u8, Refused> {
     let letter = read(sizes, bytes)?;
-    Ok(letter.body.kind())
+    Ok(letter.body.kind().number())
 }
 
 pub fn answer_to(sizes: Sizes, bytes: &[u8]) -> Answer {

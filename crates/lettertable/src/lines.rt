@@ -3,9 +3,7 @@ ghost use Rattle.std.specs.Prelude.{◌<◌, Ok, Err};
 
 use crate::answers::{Answer, Refused, answer_to};
 use anyhow::{Context, anyhow};
-use letters::sorts::Kind;
 use std::alloc::Global;
-use terms::refusals::Cause;
 use terms::sizes::Sizes;
 
 #[derive(Drop)]
@@ -45,13 +43,10 @@ fn bytes_of(heap: Global, text: &str) -> anyhow::Result<Vec<u8>> {
 }
 
 fn expected_of(word: &str, first: &str, second: Option<&str>) -> anyhow::Result<Answer> {
-    let number = first.parse::<u8>()?;
     match second {
-        None if word == "ok" => {
-            let kind = Kind::try_from(number).map_err(Cause::Form)?;
-            Ok(Answer(Ok(kind)))
-        }
+        None if word == "ok" => Ok(Answer(Ok(first.parse::<u8>()?))),
         Some(place) if word == "refused" => {
+            let number = first.parse::<u8>()?;
             let place = place.parse::<usize>()?;
             Ok(Answer(Err(Refused { number, place })))
         }
