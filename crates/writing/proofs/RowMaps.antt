@@ -19,6 +19,12 @@ map_start Known rows = record { done = []; parts = append-nil rows; maps = λ te
 bit_small : (b : Bool) → cond b 1 0 ≤ 1
 bit_small b = grind arith
 
+-- n rows have a map of n bits
+pub map_small : {A : Type 0} (test : A → Bool) (xs : List A) → map_of test xs < 2 ^ length xs
+unfolding map_of
+map_small test [] = omega arith
+map_small test (x ∷ xs) = let e : 2 ^ suc (length xs) ≡ 2 ^ length xs * 2 = pow-suc 2 (length xs) in omega (arith, bit_small (test x), map_small test xs)
+
 -- the last row that is left is done
 pub map_step :
     {A : Type 0} {Known : (A → Bool) → Type 0} {rows left rest : List A} {m : ℕ} (b : Bool) (x : A) →

@@ -1,5 +1,5 @@
 // A certificate's bytes, and their digest.
-ghost use Rattle.std.specs.Prelude.{◌≡◌};
+ghost use Rattle.std.specs.Prelude.{◌≡◌, ◌+◌, ◌≤◌, ◌++◌, length};
 ghost use Rattle.letters.specs.Certificates.{order_flag, number_bytes, certificate_bytes, certificate_digest};
 
 use crate::drafts::Draft;
@@ -16,19 +16,21 @@ fn order_flag(number: Option<KeyNumber>) -> u8
 }
 
 // The number, if there is one.
-pub(crate) fn number_draft(number: Option<KeyNumber>) -> Draft<4>
-    ensures { result ≡ number_bytes number }
+pub(crate) fn put_number<const N: usize>(draft: &mut Draft<N>, number: Option<KeyNumber>)
+    requires { length draft.old + 4 ≤ N }
+    ensures joined { draft.new ≡ draft.old ++ number_bytes number }
+    ensures within { length draft.new ≤ length draft.old + 4 }
 {
-    let mut draft = Draft::new();
     if let Some(number) = number {
         draft.extend(&number.value().to_le_bytes());
     }
-    draft
 }
 
 // A certificate: 4 bytes, a number, and 17 seals at most.
-pub(crate) fn certificate_draft(certificate: &Certificate) -> Draft<144>
-    ensures { result ≡ certificate_bytes certificate.now }
+pub(crate) fn put_certificate<const N: usize>(draft: &mut Draft<N>, certificate: &Certificate)
+    requires { length draft.old + 144 ≤ N }
+    ensures joined { draft.new ≡ draft.old ++ certificate_bytes certificate.now }
+    ensures within { length draft.new ≤ length draft.old + 144 }
 {
     let enrolled = map_of(&certificate.enrolled, |row| row.is_some()) as u8;
     let voted = map_of(&certificate.votes, |row| row.is_some()) as u8;
@@ -37,18 +39,18 @@ pub(crate) fn certificate_draft(certificate: &Certificate) -> Draft<144>
         |row| row.is_some_and(|vote| vote.answer == Answer::Ready),
     ) as u8;
     let order = certificate.order;
-    let mut draft = Draft::new();
     draft.extend(&[enrolled, voted, ready, order_flag(order.number)]);
-    draft.append(&number_draft(order.number));
+    put_number(draft, order.number);
     draft.extend(&order.seal.0.to_le_bytes());
     draft.extend_rows(&certificate.enrolled, |row| *row);
     draft.extend_rows(&certificate.votes, |row| row.map(|vote| vote.seal));
-    draft
 }
 
 // The digest of a certificate is that of its bytes.
 pub fn certificate_digest(certificate: &Certificate) -> Digest
     ensures { result ≡ certificate_digest certificate.now }
 {
-    digest_of(certificate_draft(certificate).as_slice())
+    let mut draft = Draft::<144>::new();
+    put_certificate(&mut draft, certificate);
+    digest_of(draft.as_slice())
 }

@@ -58,15 +58,6 @@ impl<const N: usize> Draft<N> {
         self.len = end;
     }
 
-    // All of another draft.
-    pub(crate) fn append<const M: usize>(&mut self, part: &Draft<M>)
-        requires { length self.old + M ≤ N }
-        ensures joined { self.new ≡ self.old ++ part.now }
-        ensures within { length self.new ≤ length self.old + M }
-    {
-        self.extend(part.as_slice());
-    }
-
     // The seals of the rows that have one, rows rising.
     pub(crate) fn extend_rows<T, F: Fn(&T) -> Option<Seal>>(&mut self, rows: &[T], seal_of: F)
         requires callable { F.IsAlwaysCallable seal_of }

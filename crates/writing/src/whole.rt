@@ -1,22 +1,33 @@
 // Whole letters as bytes.
-ghost use Rattle.std.specs.Prelude.{◌≡◌, ◌≤◌, ◌++◌, length};
+ghost use Rattle.std.specs.Prelude.{◌≡◌, ◌≤◌, [], ◌++◌, length};
 ghost use Rattle.letters.specs.Layout.{layout};
 ghost use Rattle.writing.specs.Longest.{longest_of, Suffices};
 ghost use Rattle.writing.specs.Writing.{write_answer, both_answer, write_buffer};
 
-use crate::bodies::body_draft;
+use crate::bodies::{LetterDraft, put_body};
 use crate::drafts::Draft;
 use letters::bodies::WholeLetter;
 use terms::refusals::{Refusal, no_room};
 use terms::sizes::Sizes;
 
-// No letter is longer, even with a seal in every row: 301 bytes.
-fn letter_draft(letter: &WholeLetter) -> Draft<301>
+// All of a letter onto an empty draft. Never inlined, while `letter_draft` always is: so the draft is made where it
+// is used, and its room is not copied out once more.
+#[inline(never)]
+fn put_letter(draft: &mut LetterDraft, letter: &WholeLetter)
+    requires { draft.old ≡ [] }
+    ensures { draft.new ≡ layout letter.now }
+{
+    put_body(draft, letter.change, &letter.body);
+    draft.extend(&letter.seal.0.to_le_bytes());
+}
+
+// The one draft of a letter, onto which every part is put.
+#[inline(always)]
+fn letter_draft(letter: &WholeLetter) -> LetterDraft
     ensures { result ≡ layout letter.now }
 {
     let mut draft = Draft::new();
-    draft.append(&body_draft(letter.change, &letter.body));
-    draft.extend(&letter.seal.0.to_le_bytes());
+    put_letter(&mut draft, letter);
     draft
 }
 
