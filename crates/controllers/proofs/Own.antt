@@ -25,7 +25,7 @@ use Rattle.controllers.specs.Letters.{taken, letter_taken, own_assent, body_rule
 use Rattle.controllers.specs.Rules.{Reply, may_hold, proposal, hold, held, seconded, proposing}
 
 module _ (u : Controller) (p : Proposal) (bs : Bodies) where
-  held_sends : (own : Seal) (g : Result (Unit {0}) RuleCause) → sends (passing g (served (hold u p) bs)) ≡ sends (passing g (served (held u p own) bs))
+  pub held_sends : (own : Seal) (g : Result (Unit {0}) RuleCause) → sends (passing g (served (hold u p) bs)) ≡ sends (passing g (served (held u p own) bs))
   held_sends own (Ok x) = refl
   held_sends own (Err c) = refl
 
@@ -62,6 +62,12 @@ module _ (sizes : Sizes) (t : Change) (u : Controller) (own : Seal) where
         keeping u (seconded (after u (passing g (served (hold u p) bs))) own (after u (passing g (served (hold u p) bs))).round.proposal) a ≡ keeping u (after u (passing g (served (held u p own) bs))) a
     held_keeps p bs (Ok x) e = refl
     held_keeps p bs (Err c) e = refused_keeps c _ _ e
+
+    pub judged_keeps :
+        (p : Proposal) (bs : Bodies) (g : Result (Unit {0}) RuleCause) → Ended (passing g (served (hold u p) bs)) →
+        keeping u (held u p own) a ≡ keeping u (after u (passing g (served (held u p own) bs))) a
+    judged_keeps p bs (Ok x) e = refl
+    judged_keeps p bs (Err c) e = refused_keeps c _ _ e
 
     body_keeps : (b : Body Certificate Basis) (z : Seal) → Ended (taken sizes t u b z) → keeping u (own_assent b (after u (taken sizes t u b z)) own) a ≡ keeping u (after u (body_rule sizes t u b z own)) a
     body_keeps (B.Enrol p) z e = refl

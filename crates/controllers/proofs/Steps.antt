@@ -7,27 +7,27 @@ use Rattle.controllers.specs.declared.controller.MoveRecord.{MoveRecord}
 use Rattle.controllers.specs.Choice.{stands_in, names, offer, better, best, all_recorded, covers, add_seat, picked}
 use Rattle.letters.proofs.Below.{all_below, fold_below}
 
-best_none : (records : List (Option MoveRecord)) (movers : ℕ) (v : View) → best records movers v 0 ≡ None
+pub best_none : (records : List (Option MoveRecord)) (movers : ℕ) (v : View) → best records movers v 0 ≡ None
 unfolding best
 best_none records movers v = refl
 
-best_more : (records : List (Option MoveRecord)) (movers : ℕ) (v : View) (n : ℕ) → best records movers v (n + 1) ≡ better (best records movers v n) (offer (stands_in movers n) (get_or records n None) v)
+pub best_more : (records : List (Option MoveRecord)) (movers : ℕ) (v : View) (n : ℕ) → best records movers v (n + 1) ≡ better (best records movers v n) (offer (stands_in movers n) (get_or records n None) v)
 unfolding best
 best_more records movers v n = ap (best records movers v) (add-one n)
 
-recorded_none : (records : List (Option MoveRecord)) (movers : ℕ) (v : View) → all_recorded records movers v 0 ≡ true
+pub recorded_none : (records : List (Option MoveRecord)) (movers : ℕ) (v : View) → all_recorded records movers v 0 ≡ true
 unfolding all_recorded
 recorded_none records movers v = refl
 
-recorded_more : (records : List (Option MoveRecord)) (movers : ℕ) (v : View) (n : ℕ) → all_recorded records movers v (n + 1) ≡ (all_recorded records movers v n && (not (stands_in movers n) || names (get_or records n None) v))
+pub recorded_more : (records : List (Option MoveRecord)) (movers : ℕ) (v : View) (n : ℕ) → all_recorded records movers v (n + 1) ≡ (all_recorded records movers v n && (not (stands_in movers n) || names (get_or records n None) v))
 unfolding all_recorded
 recorded_more records movers v n = ap (all_recorded records movers v) (add-one n)
 
-covers_none : (registered enrolled : List (Option Seal)) → covers registered enrolled 0 ≡ true
+pub covers_none : (registered enrolled : List (Option Seal)) → covers registered enrolled 0 ≡ true
 unfolding covers
 covers_none registered enrolled = refl
 
-covers_more : (registered enrolled : List (Option Seal)) (n : ℕ) → covers registered enrolled (n + 1) ≡ (covers registered enrolled n && (not (is_some (get_or registered n None)) || is_some (get_or enrolled n None)))
+pub covers_more : (registered enrolled : List (Option Seal)) (n : ℕ) → covers registered enrolled (n + 1) ≡ (covers registered enrolled n && (not (is_some (get_or registered n None)) || is_some (get_or enrolled n None)))
 unfolding covers
 covers_more registered enrolled n = ap (covers registered enrolled) (add-one n)
 

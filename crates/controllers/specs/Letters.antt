@@ -48,6 +48,19 @@ fresh_controller s = record {
   result = None;
 }
 
+-- the rules for all kinds but proposals, which need no seal of the controller's own
+abbrev pub plain_rule : Sizes → Controller → Body Certificate Basis → Seal → Reply
+plain_rule sizes u (Enrol p) z = enrol_rule u p z
+plain_rule sizes u (Receipt s p) z = refused R.OtherUnit
+plain_rule sizes u (Order n) z = order_rule u n z
+plain_rule sizes u (Summons s n o) z = refused R.OtherUnit
+plain_rule sizes u (Vote p n a) z = vote_rule u p n a z
+plain_rule sizes u (Proposal s v x c m) z = refused R.OtherUnit
+plain_rule sizes u (Assent s v x d) z = assent_rule sizes u s v (pair x d) z
+plain_rule sizes u (Confirm s v x d) z = confirm_rule sizes u s v (pair x d)
+plain_rule sizes u (Result s x) z = refused R.OtherUnit
+plain_rule sizes u (Move s v b) z = move_rule sizes u s v b
+
 -- ---- in two steps: the own assent is recorded once it has its seal
 
 -- a letter's rule, but a proposal is only held

@@ -107,7 +107,7 @@ impl Controller {
         sizes.leader(change, self.view) == self.seat
     }
 
-    fn may_hold(
+    pub(crate) fn may_hold(
         &self,
         sizes: Sizes,
         change: Change,
@@ -141,28 +141,6 @@ impl Controller {
     {
         self.order = self.order.or(Some(proposal.certificate.order));
         self.round.proposal = Some(proposal);
-    }
-
-    // The leader proposes: the proposal is held, and assented to. The own assent is recorded once
-    // it has its seal.
-    pub(crate) fn take_proposal(
-        &mut self,
-        sizes: Sizes,
-        change: Change,
-        view: View,
-        movers: SeatSet,
-        proposal: Proposal,
-    ) -> Reply
-        ensures { Rules.Follows self.old (Rules.holding sizes change self.old view movers proposal) result self.new }
-    {
-        self.may_hold(sizes, change, view, movers, &proposal)?;
-        self.hold(proposal);
-        Ok(AtMostTwo::One(Body::Assent {
-            sender: self.seat,
-            view: self.view,
-            outcome: proposal.outcome,
-            digest: proposal.digest,
-        }))
     }
 
     // The own assent to the held proposal, with its seal.
