@@ -93,6 +93,10 @@ pub fn send<S: Scheme>(
     ensures output { out.new ≡ send_buffer (letter change body (seal_of result)) scratch.old out.old }
     ensures scratch_cleared { scratch.new ≡ send_scratch (letter change body (seal_of result)) scratch.old out.old }
 {
+    // Before the letter is laid out; the room itself is lent once both buffers are known to do.
+    if scratch.len() < 24 {
+        return Err(no_room());
+    }
     let unsealed = Letter {
         change,
         body,
