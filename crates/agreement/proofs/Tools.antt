@@ -114,6 +114,17 @@ count_with a q (suc n) h e = elim (cases_eq n q) [
   | inr p ↦ rw (ne_eqb n q p, count_with a q n (omega arith) e) (omega arith)
 ]
 
+bit_le : (b c : Bool) (m n : ℕ) → (b ≡ true → c ≡ true) → m ≤ n → cond b 1 0 + m ≤ cond c 1 0 + n
+bit_le true true m n e h = omega arith
+bit_le true false m n e h = absurd (true≢false (sym (e refl)))
+bit_le false true m n e h = omega arith
+bit_le false false m n e h = omega arith
+
+-- a set that holds another has as many members
+pub count_le : (a b : Seats) (n : ℕ) → ((k : ℕ) → k < n → a k ≡ true → b k ≡ true) → count a n ≤ count b n
+count_le a b zero e = omega arith
+count_le a b (suc n) e = bit_le (a n) (b n) (count a n) (count b n) (e n (omega arith)) (count_le a b n (λ k h. e k (omega arith)))
+
 pub count_grows : (a : Seats) (m n : ℕ) → m ≤ n → count a m ≤ count a n
 count_grows a m zero h = let e : m ≡ 0 = omega arith in rw e (omega arith)
 count_grows a m (suc n) h = elim (cases_eq m (suc n)) [ inl e ↦ rw e (omega arith) | inr e ↦ omega (arith, count_grows a m n (omega arith)) ]

@@ -191,6 +191,21 @@ goes_along {U} {holds} {t} {u} {out} {scratch} {rule} {rule'} {w} e g = record {
   sealed = λ o. sym (ap (reply_sealed holds t g.seals) (e g.seals.first)) ∙ g.sealed o;
 }
 
+-- a call that its rule refuses
+pub goes_refused :
+    {U : Type 0} (holds : Relation) (t : Change) (u : U) (out scratch : List ℕ) (rule : Seal → Reply Refusal U) (e e' : Refusal) (scratch' : List ℕ) → has_room out scratch ≡ true →
+    ((z : Seal) → rule z ≡ refused e) → e' ≡ e → scratch' ≡ scratch_after scratch → Goes holds t u out scratch rule (went (Err e') u out scratch')
+goes_refused holds t u out scratch rule e e' scratch' h r k s = record {
+  seals = no_seals;
+  words = refl;
+  goes =
+      ap (λ x. went (Err x) u out scratch') k
+      ∙ ap (went (Err e) u out) (s ∙ ap (λ b. cond b (cleared scratch) scratch) (scratch_room out scratch h))
+      ∙ sym (ap (finished t u out scratch no_seals) (r no_seals.first))
+      ∙ sym (ap (λ b. cond b (finished t u out scratch no_seals (rule no_seals.first)) (went (Err no_room) u out scratch)) h);
+  sealed = λ o. absurd (false_true o);
+}
+
 -- ---- a scratch buffer that was cleared before the call
 
 finished_cleared : {U : Type 0} (t : Change) (u : U) (out scratch : List ℕ) (zs : Seals) (r : Reply Refusal U) → finished t u out (cleared scratch) zs r ≡ finished t u out scratch zs r

@@ -1,5 +1,5 @@
--- The weighted sum of no bytes, one byte more, and all of them.
-use Rattle.std.proofs.Common.{◌≡◌, ℕ, ◌+◌, ◌*◌, ◌%◌, ◌^◌, ◌<◌, List, get_or, fold, refl, ap, add-one, arith}
+-- The weighted sum of no bytes, one byte more, and all of them; and that of no words at all.
+use Rattle.std.proofs.Common.{◌≡◌, ℕ, zero, suc, ◌+◌, ◌*◌, ◌%◌, ◌^◌, ◌<◌, List, [], get_or, fold, refl, ap, add-one, arith}
 use Rattle.std.specs.List.{range_with_len}
 use Rattle.letters.proofs.Below.{fold_below}
 use Rattle.schemes.specs.Sheet.{added, weighted, sheet_sum}
@@ -19,3 +19,11 @@ weighted_more words bytes n =
 pub all_added : (words bytes : List ℕ) (first : ℕ) → first ≡ get_or words 0 0 → first < 2 ^ 64 → fold (added words bytes) first (range_with_len 0 24) ≡ sheet_sum words bytes
 all_added words bytes first e small =
     fold_below (added words bytes) first (λ n. weighted words bytes n % 2 ^ 64) (omega (arith, weighted_none words bytes)) (weighted_more words bytes) 24
+
+zeros : (bytes : List ℕ) (n : ℕ) → weighted [] bytes n ≡ 0
+unfolding weighted
+zeros bytes zero = refl
+zeros bytes (suc n) = omega (arith, zeros bytes n)
+
+pub sheet_of_none : (bytes : List ℕ) → sheet_sum [] bytes ≡ 0
+sheet_of_none bytes = ap (λ n. n % 2 ^ 64) (zeros bytes 24)
